@@ -1,0 +1,5 @@
+pub mod Bytes
+pub mod FirstParts
+pub mod Outcomes
+pub mod Pieces
+pub mod Words

@@ -1,0 +1,89 @@
+-- What the words and the input come to: one status and one text. Own.
+use Rattle.std.specs.Prelude.{ℕ, Bool, true, false, List, [], ◌∷◌, ◌++◌, if◌then◌else◌, Option, None, Some, codes, length, nat_le, ◌≡◌, ◌<◌, ◌≤◌, IsSomeAnd}
+use Rattle.std.specs.List.{list_any}
+use Rattle.std.specs.Str.{bytes_eq}
+use Rattle.vt_event.specs.declared.event.Kind.{Kind}
+use Rattle.vt_event.specs.declared.event.Kind.TheVariants.{Play, Fault}
+use Rattle.vt_event.specs.declared.score.Score.{Score}
+use Rattle.vt_text.specs.ScoreText.{newline, score_text_of}
+use Rattle.vt_cli.specs.declared.command.Command.{Command}
+use Rattle.vt_cli.specs.declared.command.Command.TheVariants.{Render}
+use Rattle.vt_cli.specs.declared.status.Status.{Status}
+use Rattle.vt_cli.specs.declared.status.Status.TheVariants.{Fine, Usage, TooLong, Faulty}
+use Rattle.vt_cli.specs.Piece.{score_of}
+use Rattle.vt_cli.specs.Reading.{limit}
+
+-- what a run comes to
+pub record Reply : Type 0 where
+  pub status : Status
+  pub text : List ℕ
+
+-- The command that the words are: the one word `render`. Each other list of words is none.
+abbrev pub command_of : List (List ℕ) → Option Command
+command_of [] = None
+command_of (word ∷ []) = if bytes_eq word (codes "render") then Some Render else None
+command_of (word ∷ option ∷ more) = None
+
+-- whether a command reads its input
+abbrev pub reads : Command → Bool
+reads Render = true
+
+-- the reply to words that are no command
+abbrev pub usage : Reply
+usage = record { status = Usage; text = codes "usage: render, check or gen, then pairs --name value" ++ newline }
+
+-- the reply to an input above the limit
+abbrev pub too_long : Reply
+too_long = record { status = TooLong; text = codes "too long" ++ newline }
+
+-- the event is a fault
+abbrev pub is_fault : Kind → Bool
+is_fault Play = false
+is_fault (Fault kind) = true
+
+-- the score holds a fault event
+abbrev pub has_fault : Score → Bool
+has_fault score = list_any (λ event. is_fault event.kind) score.events
+
+-- the score of a piece, with the status that tells whether it holds a fault
+abbrev pub rendered : Score → Reply
+rendered score = record { status = if has_fault score then Faulty else Fine; text = score_text_of score }
+
+-- what a command answers to an input within the limit
+abbrev pub answer_to : Command → List ℕ → Reply
+answer_to Render input = rendered (score_of input)
+
+-- an answer is given to an input within the limit alone
+abbrev pub within_limit : List ℕ → Reply → Reply
+within_limit input answer = if nat_le (length input) limit then answer else too_long
+
+-- whether the words ask for the input
+abbrev pub wants_input : Option Command → Bool
+wants_input None = false
+wants_input (Some command) = reads command
+
+-- what of the input counts: all of it, or nothing where it is not asked for
+abbrev pub heard : Option Command → List ℕ → List ℕ
+heard command input = if wants_input command then input else []
+
+-- what a command, or none, comes to on what counts of the input
+abbrev pub outcome_of : Option Command → List ℕ → Reply
+outcome_of None input = usage
+outcome_of (Some command) input = within_limit input (answer_to command input)
+
+-- one status and one text, for every list of words and every input
+abbrev pub outcome : List (List ℕ) → List ℕ → Reply
+outcome words input = outcome_of (command_of words) (heard (command_of words) input)
+
+-- the words ask for the input, and it is longer than allowed
+abbrev pub IsTooLong : List (List ℕ) → List ℕ → Type 0
+IsTooLong words input = (wants_input (command_of words) ≡ true) × (limit < length input)
+
+-- the answer to a command reports a fault of the input
+abbrev pub reports_fault : Command → List ℕ → Bool
+reports_fault Render input = has_fault (score_of input)
+
+-- the words are a command, the input is within the limit, and the answer reports a fault
+abbrev pub IsFaulty : List (List ℕ) → List ℕ → Type 0
+IsFaulty words input = IsSomeAnd (command_of words) (λ command. (length (heard (command_of words) input) ≤ limit)
+    × (reports_fault command (heard (command_of words) input) ≡ true))

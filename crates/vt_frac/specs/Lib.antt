@@ -1,0 +1,7 @@
+pub mod Arithmetic
+pub mod Decimal
+pub mod Divisor
+pub mod Fraction
+pub mod Order
+pub mod OrderLaws
+pub mod Text

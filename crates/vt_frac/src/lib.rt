@@ -1,0 +1,14 @@
+//! Exact fractions, names, and the one answer for want of memory.
+#![tactic(auto)]
+
+mod fault;
+mod frac;
+mod laws;
+mod name;
+mod no_memory;
+
+pub use fault::{DecimalFault, FracFault};
+pub use frac::Frac;
+pub use laws::{reduced_is_lowest, reduced_keeps_the_value};
+pub use name::Name;
+pub use no_memory::NoMemory;

@@ -1,0 +1,11 @@
+//! The text of a score.
+#![tactic(auto)]
+
+mod lines;
+mod parts;
+mod score;
+#[cfg(test)]
+mod tests;
+
+pub use lines::line;
+pub use score::score_text;

@@ -1,0 +1,46 @@
+// The whole text.
+ghost use Rattle.std.specs.Prelude.{◌≡◌, ◌++◌, IfOk, OnOk};
+ghost use Rattle.std.specs.List.{flat_map};
+ghost use Rattle.vt_text.specs.ScoreText.{event_line, living_line, newline, score_text_of};
+
+use crate::lines::{write_event, write_living};
+use crate::parts::{write_bytes, write_number};
+use std::alloc::Global;
+use vt_event::{Event, Living, Score};
+use vt_frac::NoMemory;
+
+fn write_events(alloc: Global, out: &mut Vec<u8>, events: &[Event]) -> Result<(), NoMemory>
+    ensures { OnOk result (out.new.items ≡ out.old.items ++ flat_map (λ event. event_line event ++ newline) events.now) }
+{
+    for event in events {
+        write_event(alloc, out, event)?;
+        write_bytes(out, b"\n")?;
+    }
+    Ok(())
+}
+
+fn write_livings(alloc: Global, out: &mut Vec<u8>, livings: &[Living]) -> Result<(), NoMemory>
+    ensures { OnOk result (out.new.items ≡ out.old.items ++ flat_map (λ living. living_line living ++ newline) livings.now) }
+{
+    for living in livings {
+        write_living(alloc, out, living)?;
+        write_bytes(out, b"\n")?;
+    }
+    Ok(())
+}
+
+/// The text of a score: a line for each event, a line for each living thread, and the line of the end, each with its
+/// newline. It fails only for want of memory.
+#[tactic(auto, unfolding(crate::specs::ScoreText::score_text_of))]
+pub fn score_text(alloc: Global, score: &Score) -> Result<Vec<u8>, NoMemory>
+    ensures { IfOk result (λ text. text.items ≡ score_text_of score.now) }
+{
+    let events = score.events.as_slice();
+    let mut text = Vec::new(alloc);
+    write_events(alloc, &mut text, events)?;
+    write_livings(alloc, &mut text, score.living.as_slice())?;
+    write_bytes(&mut text, b"end ")?;
+    write_number(&mut text, events.len() as u64)?;
+    write_bytes(&mut text, b"\n")?;
+    Ok(text)
+}
