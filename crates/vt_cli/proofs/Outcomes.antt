@@ -1,13 +1,14 @@
 -- Facts about outcomes.
-use Rattle.std.proofs.Common.{IsSomeAnd, ◌≡◌, ℕ, ◌+◌, ◌≤◌, ◌<◌, List, Bool, true, false, Option, None, Some, length, refl, sym, ap, ◌∙◌, take_all, ◌⊎◌, inl, inr, IfSome, nat_le, cond, length-take-le, arith}
+use Rattle.std.proofs.Common.{not, IsSomeAnd, ◌≡◌, ℕ, ◌+◌, ◌≤◌, ◌<◌, List, Bool, true, false, Option, None, Some, length, refl, sym, ap, ◌∙◌, take_all, ◌⊎◌, inl, inr, IfSome, nat_le, cond, length-take-le, arith}
 use Rattle.std.proofs.lemmas.Grind.{common_steps}
 use Rattle.std.proofs.lemmas.Bool.{cases_lt}
 use Rattle.vt_cli.specs.declared.command.Command.{Command}
-use Rattle.vt_cli.specs.declared.command.Command.TheVariants.{Render}
+use Rattle.vt_cli.specs.declared.command.Command.TheVariants.{Check, Render}
 use Rattle.vt_cli.specs.declared.status.Status.{Status}
 use Rattle.vt_cli.specs.declared.status.Status.TheVariants.{Fine, Usage, TooLong, WriteFault, Faulty}
 use Rattle.vt_cli.specs.Ending.{ExactlyWhere}
 use Rattle.vt_cli.specs.Piece.{score_of}
+use Rattle.vt_cli.specs.Verdict.{is_good, verdict_of}
 use Rattle.vt_cli.specs.Reading.{limit, part_read}
 use Rattle.vt_cli.specs.Outcome.{Reply, has_fault, outcome_of, within_limit, too_long, answer_to, heard, command_of, outcome, wants_input, IsTooLong, IsFaulty, reports_fault}
 
@@ -51,9 +52,14 @@ exact result due status cause other (inr failed) only always = record {
   always = λ held. inr (inr (inl failed));
 }
 
+no-too-long : (b : Bool) → cond b Fine Faulty ≡ TooLong → ⊥
+no-too-long true e = (let wrong : Fine ≡ TooLong = e in cc)
+no-too-long false e = (let wrong : Faulty ≡ TooLong = e in cc)
+
 -- no command answers TooLong to an input within the limit
 answer-no-too-long : (command : Command) (input : List ℕ) → (answer_to command input).status ≡ TooLong → ⊥
 answer-no-too-long Render input e = grind (arith, common_steps, e)
+answer-no-too-long Check input e = no-too-long (is_good (verdict_of input)) e
 
 too-long-cases : (command : Command) (input : List ℕ) → (limit < length input) ⊎ (length input ≤ limit)
     → (within_limit input (answer_to command input)).status ≡ TooLong → limit < length input
@@ -65,11 +71,13 @@ too-long-only : (command : Option Command) (input : List ℕ) → (outcome_of co
     → (wants_input command ≡ true) × (limit < length input)
 too-long-only None input e = absurd (let wrong : Usage ≡ TooLong = e in cc)
 too-long-only (Some Render) input e = (refl, too-long-cases Render input (cases_lt limit (length input)) e)
+too-long-only (Some Check) input e = (refl, too-long-cases Check input (cases_lt limit (length input)) e)
 
 too-long-always : (command : Option Command) (input : List ℕ) → (wants_input command ≡ true) × (limit < length input)
     → (outcome_of command (heard command input)).status ≡ TooLong
 too-long-always None input held = absurd (let wrong : false ≡ true = held.0 in cc)
 too-long-always (Some Render) input held = ap (λ (o : Reply). o.status) (within-long _ _ too_long held.1)
+too-long-always (Some Check) input held = ap (λ (o : Reply). o.status) (within-long _ _ too_long held.1)
 
 pub too-long-clause : (words : List (List ℕ)) (left : Option (List ℕ)) (a : Reply) (result : Status)
     → IfSome left (λ input. a ≡ outcome words input) → (result ≡ a.status) ⊎ (result ≡ WriteFault)
@@ -85,12 +93,22 @@ score-faulty : (b : Bool) → cond b Faulty Fine ≡ Faulty → b ≡ true
 score-faulty true e = refl
 score-faulty false e = absurd (let wrong : Fine ≡ Faulty = e in cc)
 
+verdict-faulty : (b : Bool) → cond b Fine Faulty ≡ Faulty → not b ≡ true
+verdict-faulty true e = absurd (let wrong : Fine ≡ Faulty = e in cc)
+verdict-faulty false e = refl
+
+faulty-verdict : (b : Bool) → not b ≡ true → cond b Fine Faulty ≡ Faulty
+faulty-verdict true e = absurd (let wrong : false ≡ true = e in cc)
+faulty-verdict false e = refl
+
 -- a command answers Faulty exactly where its answer reports a fault
 answer-faulty : (command : Command) (input : List ℕ) → (answer_to command input).status ≡ Faulty → reports_fault command input ≡ true
 answer-faulty Render input e = score-faulty (has_fault (score_of input)) e
+answer-faulty Check input e = verdict-faulty (is_good (verdict_of input)) e
 
 faulty-answer : (command : Command) (input : List ℕ) → reports_fault command input ≡ true → (answer_to command input).status ≡ Faulty
 faulty-answer Render input held = ap (λ b. cond b Faulty Fine) held
+faulty-answer Check input held = faulty-verdict (is_good (verdict_of input)) held
 
 faulty-cases : (command : Command) (input : List ℕ) → (limit < length input) ⊎ (length input ≤ limit)
     → (within_limit input (answer_to command input)).status ≡ Faulty → (length input ≤ limit) × (reports_fault command input ≡ true)

@@ -4,3 +4,4 @@ pub mod Line
 pub mod Outcome
 pub mod Piece
 pub mod Reading
+pub mod Verdict

@@ -1,5 +1,5 @@
 -- What the words and the input come to: one status and one text. Own.
-use Rattle.std.specs.Prelude.{ℕ, Bool, true, false, List, [], ◌∷◌, ◌++◌, if◌then◌else◌, Option, None, Some, codes, length, nat_le, ◌≡◌, ◌<◌, ◌≤◌, IsSomeAnd}
+use Rattle.std.specs.Prelude.{ℕ, Bool, true, false, List, [], ◌∷◌, ◌++◌, if◌then◌else◌, Option, None, Some, codes, length, nat_le, not, ◌≡◌, ◌<◌, ◌≤◌, IsSomeAnd}
 use Rattle.std.specs.List.{list_any}
 use Rattle.std.specs.Str.{bytes_eq}
 use Rattle.vt_event.specs.declared.event.Kind.{Kind}
@@ -7,26 +7,29 @@ use Rattle.vt_event.specs.declared.event.Kind.TheVariants.{Play, Fault}
 use Rattle.vt_event.specs.declared.score.Score.{Score}
 use Rattle.vt_text.specs.ScoreText.{newline, score_text_of}
 use Rattle.vt_cli.specs.declared.command.Command.{Command}
-use Rattle.vt_cli.specs.declared.command.Command.TheVariants.{Render}
+use Rattle.vt_cli.specs.declared.command.Command.TheVariants.{Check, Render}
 use Rattle.vt_cli.specs.declared.status.Status.{Status}
 use Rattle.vt_cli.specs.declared.status.Status.TheVariants.{Fine, Usage, TooLong, Faulty}
 use Rattle.vt_cli.specs.Piece.{score_of}
 use Rattle.vt_cli.specs.Reading.{limit}
+use Rattle.vt_cli.specs.declared.check.Verdict.{Verdict}
+use Rattle.vt_cli.specs.Verdict.{is_good, verdict_of, verdict_text}
 
 -- what a run comes to
 pub record Reply : Type 0 where
   pub status : Status
   pub text : List ℕ
 
--- The command that the words are: the one word `render`. Each other list of words is none.
+-- The command that the words are: the one word `render` or `check`. Each other list of words is none.
 abbrev pub command_of : List (List ℕ) → Option Command
 command_of [] = None
-command_of (word ∷ []) = if bytes_eq word (codes "render") then Some Render else None
+command_of (word ∷ []) = if bytes_eq word (codes "render") then Some Render else (if bytes_eq word (codes "check") then Some Check else None)
 command_of (word ∷ option ∷ more) = None
 
 -- whether a command reads its input
 abbrev pub reads : Command → Bool
 reads Render = true
+reads Check = true
 
 -- the reply to words that are no command
 abbrev pub usage : Reply
@@ -49,9 +52,14 @@ has_fault score = list_any (λ event. is_fault event.kind) score.events
 abbrev pub rendered : Score → Reply
 rendered score = record { status = if has_fault score then Faulty else Fine; text = score_text_of score }
 
+-- the line that tells the verdict on a text, with the status that tells whether it is refused
+abbrev pub checked : Verdict → Reply
+checked verdict = record { status = if is_good verdict then Fine else Faulty; text = verdict_text verdict }
+
 -- what a command answers to an input within the limit
 abbrev pub answer_to : Command → List ℕ → Reply
 answer_to Render input = rendered (score_of input)
+answer_to Check input = checked (verdict_of input)
 
 -- an answer is given to an input within the limit alone
 abbrev pub within_limit : List ℕ → Reply → Reply
@@ -82,6 +90,7 @@ IsTooLong words input = (wants_input (command_of words) ≡ true) × (limit < le
 -- the answer to a command reports a fault of the input
 abbrev pub reports_fault : Command → List ℕ → Bool
 reports_fault Render input = has_fault (score_of input)
+reports_fault Check input = not (is_good (verdict_of input))
 
 -- the words are a command, the input is within the limit, and the answer reports a fault
 abbrev pub IsFaulty : List (List ℕ) → List ℕ → Type 0

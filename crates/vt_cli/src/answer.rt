@@ -4,6 +4,7 @@ ghost use Rattle.std.specs.List.{list_any};
 ghost use Rattle.vt_cli.specs.Outcome.{Reply, answer_to, is_fault, outcome_of};
 ghost use Rattle.vt_cli.specs.Reading.{limit};
 
+use crate::check::{verdict_of, verdict_text};
 use crate::piece::score_of;
 use crate::transfer::LIMIT;
 use crate::{Command, Status};
@@ -71,6 +72,20 @@ fn render(alloc: Global, input: &[u8]) -> Result<Answer, NoMemory>
     Ok(Answer { status, text })
 }
 
+fn check(alloc: Global, input: &[u8]) -> Result<Answer, NoMemory>
+    requires { length input.now ≤ limit }
+    ensures { IfOk result (λ answer. answer ≡ answer_to Command.Check input.now) }
+{
+    let verdict = verdict_of(alloc, input)?;
+    let text = verdict_text(alloc, verdict)?;
+    let status = if verdict.is_good() {
+        Status::Fine
+    } else {
+        Status::Faulty
+    };
+    Ok(Answer { status, text })
+}
+
 /// What a command answers to an input within the limit.
 fn answer_to(alloc: Global, command: Command, input: &[u8]) -> Result<Answer, NoMemory>
     requires { length input.now ≤ limit }
@@ -78,6 +93,7 @@ fn answer_to(alloc: Global, command: Command, input: &[u8]) -> Result<Answer, No
 {
     match command {
         Command::Render => render(alloc, input),
+        Command::Check => check(alloc, input),
     }
 }
 

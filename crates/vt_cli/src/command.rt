@@ -7,6 +7,8 @@ ghost use Rattle.vt_cli.specs.Outcome.{command_of, reads, wants_input};
 pub enum Command {
     /// Write the score of the piece in the input.
     Render,
+    /// Tell whether the text in the input can be read.
+    Check,
 }
 
 impl Command {
@@ -16,6 +18,7 @@ impl Command {
     {
         match self {
             Command::Render => true,
+            Command::Check => true,
         }
     }
 }
@@ -28,6 +31,8 @@ pub fn command_of(words: &[String]) -> Option<Command>
         [word] => {
             if word.as_str() == "render" {
                 Some(Command::Render)
+            } else if word.as_str() == "check" {
+                Some(Command::Check)
             } else {
                 None
             }

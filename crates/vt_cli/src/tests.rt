@@ -304,11 +304,12 @@ fn steps_count_notes_and_rests_and_no_empty_lines(rt: HostRuntime) -> Result<(),
 }
 
 #[test]
-fn all_words_but_render_alone_are_usage(rt: HostRuntime) -> Result<(), Fail> {
-    let cases: [&[&str]; 16] = [
+fn all_words_but_a_command_alone_are_usage(rt: HostRuntime) -> Result<(), Fail> {
+    let cases: [&[&str]; 17] = [
         &[],
         &[""],
-        &["check"],
+        &["check", "x"],
+        &["checks"],
         &["gen"],
         &["Render"],
         &["RENDER"],
@@ -332,6 +333,34 @@ fn all_words_but_render_alone_are_usage(rt: HostRuntime) -> Result<(), Fail> {
         let mut unread = [b'?'; 9];
         assert_eq!(rt; src.read(&mut unread), Ok(7), "{case:?}");
         assert_eq!(rt; &unread, b"play 60??", "{case:?}");
+    }
+    Ok(())
+}
+
+#[test]
+fn check_tells_whether_a_text_can_be_read(rt: HostRuntime) -> Result<(), Fail> {
+    let check = words(&rt, &["check"])?;
+    for (input, text, code) in [
+        ("", "text 1 ok\n", 0),
+        ("play 60\nsleep 0.5\n", "text 1 ok\n", 0),
+        (
+            "live_loop :x do\n  play (scale :e3, :major).tick, amp: 2\n  sleep 1\nend\n",
+            "text 1 ok\n",
+            0,
+        ),
+        ("%cue", "text 1 syntax 1\n", 8),
+        ("play \"a", "text 1 lex text 1\n", 8),
+        ("play 60\nplay @", "text 1 lex byte 2\n", 8),
+        ("play 99999999999999999999", "text 1 lex number 1\n", 8),
+        ("puts 1,", "text 1 syntax 1\n", 8),
+        ("play 60\nend\n", "text 1 syntax 2\n", 8),
+        ("if x\n  play 60\n", "text 1 syntax 2\n", 8),
+    ] {
+        let mut src = QuietSource::of(rt.alloc(), input.as_bytes())?;
+        let mut out = ScriptSink::of(rt.alloc(), 16, &[], 200)?;
+        let status = perform(&rt, &check, &mut src, &mut out);
+        assert_eq!(rt; out.taken(), text.as_bytes(), "{input}");
+        assert_eq!(rt; status.code(), code, "{input}");
     }
     Ok(())
 }

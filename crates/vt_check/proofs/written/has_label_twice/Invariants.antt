@@ -1,0 +1,6 @@
+use Rattle.std.proofs.Common.{◌≡◌, drop}
+use Rattle.vt_check.specs.Written.{has_twice}
+use Rattle.vt_check.proofs.written.has_label_twice.Given as goal
+
+abbrev pub invariant-loop-i : goal.invariant-loop-i
+invariant-loop-i l = has_twice (λ option. option.0) (drop l.i l.options) ≡ has_twice (λ option. option.0) l.options

@@ -1,0 +1,9 @@
+pub mod Checked
+pub mod Conditions
+pub mod Forms
+pub mod Judging
+pub mod Laws
+pub mod Parts
+pub mod Verdict
+pub mod WellFormed
+pub mod Written

@@ -1,0 +1,19 @@
+//! The checks: what a text may say before it runs.
+#![tactic(auto)]
+
+mod checked;
+mod conditions;
+mod fault;
+mod find;
+mod first_fault;
+mod laws;
+mod paths;
+mod place;
+#[cfg(test)]
+mod tests;
+mod walk;
+mod written;
+
+pub use checked::{Checked, check};
+pub use fault::{CheckFault, CheckKind};
+pub use laws::{never_both, never_neither, one_fault};

@@ -1,0 +1,35 @@
+use Rattle.std.proofs.Common.{◌∙◌, ◌≤◌, ◌<◌, ◌^◌, ap, sym, subst, length, arith}
+use Rattle.vt_lex.specs.Answers.{Faults}
+use Rattle.vt_parse.specs.Parses.{AreTokens, spelled}
+use Rattle.vt_parse.specs.Text.{Reads, SyntaxRefuses}
+use Rattle.vt_parse.proofs.Lexed.{lexed_are_few, lexed_are_tokens}
+use Rattle.vt_cli.specs.Reading.{limit}
+use Rattle.vt_cli.proofs.Verdicts.{good_verdict, lex_verdict, syntax_verdict}
+use Rattle.vt_cli.proofs.check.verdict_of.Goals as goal
+
+pub returns-in-Err-At : goal.returns-in-Err-At
+returns-in-Err-At c =
+    let told = lex_verdict c.args.text.now c.in-Err-At.line c.in-Err-At.kind (subst (Faults c.args.text.now 1) c.in-Err-At.field-0-is c.in-Err-At.ensures.fault) in
+    rw (c.in-Err-At.line-is, c.in-Err-At.kind-is) told
+
+pub parse-requires-clause-tokens : goal.parse-requires-clause-tokens
+parse-requires-clause-tokens c =
+    subst (AreTokens c.args.text.now) (sym c.deref.ensures.value) (lexed_are_tokens c.args.text.now 1 c.in-Ok.tokens.items c.in-Ok.ensures.tokens)
+
+pub parse-requires-clause-short : goal.parse-requires-clause-short
+parse-requires-clause-short c =
+    let few : length c.in-Ok.tokens.items ≤ length c.args.text.now = lexed_are_few c.args.text.now 1 c.in-Ok.tokens.items c.in-Ok.ensures.tokens in
+    let same = ap length c.deref.ensures.value in
+    let short : length c.args.text.now ≤ limit = c.requires in
+    omega (arith, few, same, short)
+
+pub returns-in-Ok-parse : goal.returns-in-Ok-parse
+returns-in-Ok-parse c =
+    good_verdict c.args.text.now c.in-Ok.tokens.items c.in-Ok-parse.field-0 c.in-Ok.ensures.tokens
+    (subst (λ ts. Reads (spelled c.args.text.now ts) c.in-Ok-parse.field-0) c.deref.ensures.value c.in-Ok-parse.ensures.tree)
+
+pub returns-in-Err-At-parse : goal.returns-in-Err-At-parse
+returns-in-Err-At-parse c =
+    syntax_verdict c.args.text.now c.in-Ok.tokens.items c.in-Err-At-parse.line c.in-Ok.ensures.tokens
+    (subst (λ ts. SyntaxRefuses (spelled c.args.text.now ts) c.in-Err-At-parse.line) c.deref.ensures.value
+    (let h = rw c.in-Err-At-parse.field-0-is at c.in-Err-At-parse.ensures.refused in h))

@@ -1,0 +1,44 @@
+-- The verdict on a text: whether it can be read, and else where it is refused. Own.
+use Rattle.std.specs.Prelude.{ℕ, ◌⊎◌, Bool, true, false, List, ◌++◌, codes, decimal}
+use Rattle.std.proofs.Common.{inl, inr}
+use Rattle.vt_lex.specs.declared.fault.LexKind.{LexKind}
+use Rattle.vt_lex.specs.declared.fault.LexKind.TheVariants.{Byte, Text, Number, Long}
+use Rattle.vt_lex.specs.Lexing.{HasTokens, IsRefused}
+use Rattle.vt_lex.proofs.Uniqueness.{always as lexed_or_refused}
+use Rattle.vt_parse.specs.Parses.{spelled}
+use Rattle.vt_parse.specs.Verdict.{Parsed, Tree, Refused, parsed_of}
+use Rattle.vt_text.specs.ScoreText.{newline}
+use Rattle.vt_cli.specs.declared.check.Verdict.{Verdict}
+use Rattle.vt_cli.specs.declared.check.Verdict.TheVariants.{Good, Lex, Syntax}
+
+-- what tokens that are read as a tree, or refused on a line, come to
+abbrev pub parsed_verdict : Parsed → Verdict
+parsed_verdict (Tree tree) = Good
+parsed_verdict (Refused line) = Syntax line
+
+-- what a text that has tokens, or a first fault, comes to
+abbrev pub lexed_verdict : (text : List ℕ) → HasTokens text 1 ⊎ IsRefused text 1 → Verdict
+lexed_verdict text (inl lexed) = parsed_verdict (parsed_of (spelled text lexed.tokens))
+lexed_verdict text (inr refused) = Lex refused.line refused.kind
+
+-- the verdict on a text; each text has tokens or a first fault, and never both
+unfoldable pub verdict_of : List ℕ → Verdict
+verdict_of text = lexed_verdict text (lexed_or_refused text 1)
+
+abbrev pub is_good : Verdict → Bool
+is_good Good = true
+is_good (Lex line kind) = false
+is_good (Syntax line) = false
+
+-- the word of a fault of the tokens
+abbrev pub lex_word : LexKind → List ℕ
+lex_word Byte = codes "byte"
+lex_word Text = codes "text"
+lex_word Number = codes "number"
+lex_word Long = codes "long"
+
+-- the line that tells a verdict
+abbrev pub verdict_text : Verdict → List ℕ
+verdict_text Good = codes "text 1 ok" ++ newline
+verdict_text (Lex line kind) = codes "text 1 lex " ++ lex_word kind ++ codes " " ++ decimal line ++ newline
+verdict_text (Syntax line) = codes "text 1 syntax " ++ decimal line ++ newline

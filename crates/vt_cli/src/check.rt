@@ -1,0 +1,90 @@
+// Whether a text can be read.
+ghost use Rattle.std.specs.Prelude.{◌≡◌, ◌≤◌, ◌++◌, IfOk, decimal, length};
+ghost use Rattle.vt_text.specs.ScoreText.{newline};
+ghost use Rattle.vt_cli.specs.Reading.{limit};
+ghost use Rattle.vt_cli.specs.Verdict.{is_good, lex_word, verdict_of, verdict_text};
+
+use itoa::Buffer;
+use std::alloc::Global;
+use vt_frac::NoMemory;
+use vt_lex::{LexFault, LexKind, lex};
+use vt_parse::{SyntaxFault, parse};
+
+/// What comes of reading a text.
+#[derive(Clone, Copy, Debug, PartialEq, Eq)]
+pub enum Verdict {
+    /// It is read.
+    Good,
+    /// It has no tokens: its first fault.
+    Lex { line: u32, kind: LexKind },
+    /// Its tokens are no piece: the line of the first token with which no text begins, or of the end.
+    Syntax { line: u32 },
+}
+
+impl Verdict {
+    pub fn is_good(&self) -> bool
+        ensures { result ≡ is_good self.now }
+    {
+        match self {
+            Verdict::Good => true,
+            Verdict::Lex { .. } => false,
+            Verdict::Syntax { .. } => false,
+        }
+    }
+}
+
+/// The verdict on a text.
+pub fn verdict_of(alloc: Global, text: &[u8]) -> Result<Verdict, NoMemory>
+    requires { length text.now ≤ limit }
+    ensures { IfOk result (λ verdict. verdict ≡ verdict_of text.now) }
+{
+    let tokens = match lex(alloc, text, 1) {
+        Ok(tokens) => tokens,
+        Err(LexFault::At { line, kind }) => return Ok(Verdict::Lex { line, kind }),
+        Err(LexFault::NoMemory) => return Err(NoMemory),
+    };
+    match parse(alloc, text, &tokens) {
+        Ok(_) => Ok(Verdict::Good),
+        Err(SyntaxFault::At { line }) => Ok(Verdict::Syntax { line }),
+        Err(SyntaxFault::NoMemory) => Err(NoMemory),
+    }
+}
+
+fn lex_word(kind: LexKind) -> &'static [u8]
+    ensures { result.now ≡ lex_word kind }
+{
+    match kind {
+        LexKind::Byte => b"byte",
+        LexKind::Text => b"text",
+        LexKind::Number => b"number",
+        LexKind::Long => b"long",
+    }
+}
+
+/// The bytes, and then a number and a newline.
+fn with_number(mut bytes: Vec<u8>, number: u32) -> Result<Vec<u8>, NoMemory>
+    ensures { IfOk result (λ text. text.items ≡ bytes.items ++ decimal number ++ newline) }
+{
+    let mut buffer = Buffer::new();
+    bytes.extend_from_slice(buffer.format(number).as_bytes())?;
+    bytes.extend_from_slice(b"\n")?;
+    Ok(bytes)
+}
+
+/// The line that tells a verdict.
+pub fn verdict_text(alloc: Global, verdict: Verdict) -> Result<Vec<u8>, NoMemory>
+    ensures { IfOk result (λ text. text.items ≡ verdict_text verdict) }
+{
+    match verdict {
+        Verdict::Good => Ok(Vec::from_slice(alloc, b"text 1 ok\n")?),
+        Verdict::Lex { line, kind } => {
+            let mut text = Vec::from_slice(alloc, b"text 1 lex ")?;
+            text.extend_from_slice(lex_word(kind))?;
+            text.extend_from_slice(b" ")?;
+            with_number(text, line)
+        }
+        Verdict::Syntax { line } => {
+            with_number(Vec::from_slice(alloc, b"text 1 syntax ")?, line)
+        }
+    }
+}

@@ -1,0 +1,12 @@
+pub mod Tables
+pub mod Longest
+pub mod Lists
+pub mod Digits
+pub mod Bodies
+pub mod Bounds
+pub mod Steps
+pub mod Uniqueness
+pub mod Newlines
+pub mod Shapes
+pub mod Placing
+pub mod Skipping

@@ -1,0 +1,6 @@
+use Rattle.std.proofs.Common.{◌≡◌, drop}
+use Rattle.vt_lex.specs.Words.{spelled, first_start}
+use Rattle.vt_lex.proofs.words.first_start.Given as goal
+
+abbrev pub invariant-loop-form : goal.invariant-loop-form
+invariant-loop-form l = first_start (spelled (drop l.form-index l.forms)) l.bytes ≡ first_start (spelled l.forms) l.bytes

@@ -1,0 +1,12 @@
+pub mod Bytes
+pub mod Words
+pub mod Texts
+pub mod Measures
+pub mod Numbers
+pub mod Pieces
+pub mod Lexing
+pub mod Stands
+pub mod Answers
+pub mod Forms
+pub mod Places
+pub mod Skipped

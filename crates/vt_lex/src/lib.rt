@@ -1,0 +1,24 @@
+//! Tokens of a text.
+#![tactic(auto)]
+
+mod bytes;
+mod fault;
+mod laws;
+mod lexer;
+mod numbers;
+mod piece;
+mod texts;
+mod token;
+mod words;
+
+pub use fault::{LexFault, LexKind};
+pub use laws::{
+    always_law, apart_law, forms_law, longest_law, one_fault_law, one_list_law, places_law,
+    skipped_law,
+};
+pub use lexer::lex;
+pub use texts::text_value;
+pub use token::{Token, TokenKind};
+
+#[cfg(test)]
+mod tests;

@@ -1,0 +1,51 @@
+-- What stands at the front of the parser's tokens.
+use Rattle.std.proofs.Common.{◌≡◌, ◌≤◌, ◌<◌, ℕ, suc, cond, List, [], ◌∷◌, length, slice_index_or, slice_range, Some, None, ◌-◌, refl, sym, ap, arith}
+use Rattle.std.proofs.lemmas.List.{take_all}
+use Rattle.vt_lex.specs.declared.token.Token.{Token}
+use Rattle.vt_parse.specs.Marks.{Mark, marked, mark_of, number_with, word_of, word_at, begins_block}
+use Rattle.vt_parse.specs.Parses.{AreTokens, peeked, peeked_line, peeked_second, spelled, spelled_in}
+use Rattle.vt_parse.specs.Values.{HasValue}
+
+pub front_line : (n : ℕ) (text : List ℕ) (ts : List Token) (d : Token) → 1 ≤ length ts → Some (slice_index_or ts 0 d).line ≡ peeked_line (marked n (spelled text ts))
+unfolding mark_of spelled_in
+front_line n text [] d h = absurd (omega (arith, h))
+front_line n text (t ∷ ts) d h = refl
+
+pub front_word : (n : ℕ) (text : List ℕ) (ts : List Token) (d : Token) → 1 ≤ length ts
+    → Some (let t = slice_index_or ts 0 d in word_at t.kind t.gap t.tight (slice_range text t.from t.to)) ≡ peeked (marked n (spelled text ts))
+unfolding mark_of spelled_in word_of
+front_word n text [] d h = absurd (omega (arith, h))
+front_word n text (t ∷ ts) d h = refl
+
+pub front_rest : (n : ℕ) (text : List ℕ) (ts : List Token) (d : Token) → 1 ≤ length ts
+    → let t = slice_index_or ts 0 d in
+    let bytes = slice_range text t.from t.to in
+    let w = word_at t.kind t.gap t.tight bytes in
+    let number = cond (begins_block w) (suc n) n in
+    let front : Mark = record { word = w; line = t.line; gap = t.gap; bytes = bytes; number = number } in
+    marked n (spelled text ts) ≡ front ∷ marked number (spelled text (slice_range ts 1 (length ts)))
+unfolding mark_of spelled_in word_of number_with
+front_rest n text [] d h = absurd (omega (arith, h))
+front_rest n text (t ∷ ts) d h =
+    let w = word_at t.kind t.gap t.tight (slice_range text t.from t.to) in
+    let number = cond (begins_block w) (suc n) n in
+    let front : Mark = record { word = w; line = t.line; gap = t.gap; bytes = slice_range text t.from t.to; number = number } in
+    ap (λ z. front ∷ marked number (spelled text z)) (sym (take_all (length (t ∷ ts) - 1) ts (omega arith)))
+
+pub front_value : (text : List ℕ) (ts : List Token) (d : Token) → 1 ≤ length ts → AreTokens text ts
+    → let t = slice_index_or ts 0 d in HasValue (word_at t.kind t.gap t.tight (slice_range text t.from t.to)) (slice_range text t.from t.to)
+unfolding spelled_in word_of
+front_value text [] d h all = absurd (omega (arith, h))
+front_value text (t ∷ ts) d h all = all.0.value
+
+pub front_second : (n : ℕ) (text : List ℕ) (ts : List Token) (d : Token) → 2 ≤ length ts
+    → Some (let t = slice_index_or ts 1 d in (t.gap, word_at t.kind t.gap t.tight (slice_range text t.from t.to))) ≡ peeked_second (marked n (spelled text ts))
+unfolding mark_of spelled_in word_of
+front_second n text [] d h = absurd (omega (arith, h))
+front_second n text (t ∷ []) d h = absurd (omega (arith, h))
+front_second n text (t ∷ u ∷ ts) d h = refl
+
+pub front_no_second : (n : ℕ) (text : List ℕ) (ts : List Token) → length ts < 2 → None ≡ peeked_second (marked n (spelled text ts))
+front_no_second n text [] h = refl
+front_no_second n text (t ∷ []) h = refl
+front_no_second n text (t ∷ u ∷ ts) h = absurd (omega (arith, h))

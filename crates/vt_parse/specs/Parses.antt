@@ -1,0 +1,95 @@
+-- What the parser's functions answer.
+use Rattle.std.specs.Prelude.{◌≡◌, ◌≤◌, ℕ, Bool, false, ◌&&◌, List, [], ◌∷◌, length, slice_range, Option, Some, None, Result, Ok, Err}
+use Rattle.vt_lex.specs.declared.token.Token.{Token}
+use Rattle.vt_parse.specs.declared.words.Word.{Word}
+use Rattle.vt_parse.specs.declared.fault.Fault.{Fault}
+use Rattle.vt_parse.specs.declared.fault.Fault.TheVariants.{Here, NoMemory}
+use Rattle.vt_parse.specs.declared.seen.Seen.{Seen}
+use Rattle.vt_parse.specs.Form.{Form}
+use Rattle.vt_parse.specs.Steps.{Read, Stuck}
+use Rattle.vt_parse.specs.Marks.{Mark, Spelled, word_of}
+use Rattle.vt_parse.specs.Values.{HasValue}
+use Rattle.vt_parse.specs.Grammar.{leads, is_set}
+use Rattle.vt_parse.specs.Sets.{ArgStarts, just, peeked_in}
+use Rattle.vt_parse.specs.declared.words.Word.TheVariants as words
+
+-- the bytes of a token of this text
+unfoldable pub spelled_in : List ℕ → Token → Spelled
+spelled_in text t = record { token = t; bytes = slice_range text t.from t.to }
+
+-- the tokens with the bytes that they have in this text
+abbrev pub spelled : List ℕ → List Token → List Spelled
+spelled text [] = []
+spelled text (t ∷ ts) = spelled_in text t ∷ spelled text ts
+
+-- the token stands in the text, and has a value there where it is a number or a text
+pub record IsToken (text : List ℕ) (t : Token) : Type 0 where
+  pub ordered : t.from ≤ t.to
+  pub inside : t.to ≤ length text
+  pub value : HasValue (word_of (spelled_in text t)) (slice_range text t.from t.to)
+
+abbrev pub AreTokens : List ℕ → List Token → Type 0
+AreTokens text [] = Unit {0}
+AreTokens text (t ∷ ts) = IsToken text t × AreTokens text ts
+
+-- what the rules see of a token of the parser
+abbrev pub seen : Seen → Mark
+seen s = record { word = s.word; line = s.line; gap = s.gap; bytes = s.bytes.now; number = s.number }
+
+-- the word of the token at the front
+abbrev pub peeked : List Mark → Option Word
+peeked [] = None
+peeked (t ∷ ts) = Some t.word
+
+-- whether a blank stands before the second token, and its word
+abbrev pub peeked_second : List Mark → Option (Bool × Word)
+peeked_second [] = None
+peeked_second (t ∷ []) = None
+peeked_second (t ∷ u ∷ ts) = Some (u.gap, u.word)
+
+-- where something more may be opened or not
+abbrev pub leads_second : Bool → Option (Bool × Word) → Bool
+leads_second b None = false
+leads_second b (Some (gap, w)) = gap && (leads w && ArgStarts b w)
+
+-- the first token is the head of a command, and an argument may begin after it
+abbrev pub is_command : Bool → List Mark → Bool
+is_command b tokens = peeked_in (just words.Name) tokens && leads_second b (peeked_second tokens)
+
+abbrev pub sets_second : Option (Bool × Word) → Bool
+sets_second None = false
+sets_second (Some (gap, w)) = is_set w
+
+-- an assignment begins here
+abbrev pub is_assign : List Mark → Bool
+is_assign tokens = peeked_in (just words.Name) tokens && sets_second (peeked_second tokens)
+
+-- the line of the token at the front
+abbrev pub peeked_line : List Mark → Option ℕ
+peeked_line [] = None
+peeked_line (t ∷ ts) = Some t.line
+
+-- No memory, or no token more could be read.
+abbrev pub Fails : {V : Type 0} → Form Mark V → List Mark → List Mark → Fault → Type 0
+Fails a old new Here = Stuck a old new
+Fails a old new NoMemory = Unit {0}
+
+-- The form was read from the front of old and new is left, or it failed at new.
+abbrev pub Parses : {V : Type 0} → Form Mark V → List Mark → List Mark → Result V Fault → Type 0
+Parses a old new (Ok v) = Read a old new v
+Parses a old new (Err e) = Fails a old new e
+
+-- the same of a value that stands for the form's
+abbrev pub ParsesAs : {V W : Type 0} → (W → V) → Form Mark V → List Mark → List Mark → Result W Fault → Type 0
+ParsesAs f a old new (Ok w) = Read a old new (f w)
+ParsesAs f a old new (Err e) = Fails a old new e
+
+-- this value, unless there is no memory
+abbrev pub Makes : {V : Type 0} → V → Result V Fault → Type 0
+Makes v (Ok w) = w ≡ v
+Makes v (Err e) = e ≡ NoMemory
+
+-- this holds, unless there is no memory
+abbrev pub Unless : Type 0 → Result (Unit {0}) Fault → Type 0
+Unless P (Ok u) = P
+Unless P (Err e) = e ≡ NoMemory

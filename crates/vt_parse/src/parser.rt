@@ -1,0 +1,262 @@
+ghost use Rattle.std.specs.Prelude.{◌≡◌, ℕ, ◌∷◌, ◌<◌, ◌+◌, ◌^◌, length, Some};
+ghost use Rattle.vt_parse.specs.Grammar.{among, first_line};
+ghost use Rattle.vt_parse.specs.Values.{HasValue};
+ghost use Rattle.std.specs.Prelude.{IfOk};
+ghost use Rattle.vt_parse.specs.Grammar.{word as word_of_grammar};
+ghost use Rattle.vt_parse.specs.Marks.{marked};
+ghost use Rattle.vt_parse.specs.Parses.{AreTokens, ParsesAs, is_assign, is_command, leads_second, peeked, peeked_second, sets_second, peeked_line, seen, spelled};
+ghost use Rattle.vt_parse.specs.Sets.{ArgStarts, ExprStarts, PartStarts, StmtStarts, just, peeked_in, with_room};
+ghost use Rattle.std.specs.Prelude.{◌&&◌, nat_lt};
+ghost use Rattle.vt_parse.specs.Classes.{class_words};
+
+use crate::classes::{Class, is_of, leads, starts_arg, starts_expr, starts_stmt};
+use crate::fault::Fault;
+use crate::seen::Seen;
+use crate::words::{Word, number_with, same, word_at};
+use std::marker::Model;
+use vt_lex::Token;
+
+/// The tokens that are left of a text, and how many blocks have begun before them.
+#[derive(Drop)]
+pub struct Parser<'a> {
+    text: &'a [u8],
+    rest: &'a [Token],
+    blocks: u32,
+}
+
+impl<'a> Model for Parser<'a> {
+    ghost use Rattle.std.specs.Prelude.{ℕ, List, length, ◌<◌, ◌+◌, ◌^◌};
+    ghost use Rattle.vt_parse.specs.Marks.{Mark, marked};
+    ghost use Rattle.vt_parse.specs.Parses.{AreTokens, spelled};
+
+    ghost Value = { List Mark };
+
+    ghost view = { λ p. marked p.blocks (spelled p.text.now p.rest.now) };
+
+    ghost invariant = { λ p. AreTokens p.text.now p.rest.now × (p.blocks + length p.rest.now < 2 ^ 32) };
+}
+
+impl<'a> Parser<'a> {
+    pub(crate) fn new(text: &'a [u8], tokens: &'a [Token]) -> Parser<'a>
+        requires tokens { AreTokens text.now tokens.now }
+        requires short { length tokens.now < 2 ^ 32 }
+        ensures { result ≡ marked 0 (spelled text.now tokens.now) }
+    {
+        Parser {
+            text,
+            rest: tokens,
+            blocks: 0,
+        }
+    }
+
+    /// The line of the token that stands here.
+    pub(crate) fn line_here(&self) -> Option<u32>
+        ensures { result ≡ peeked_line self.now }
+    {
+        match self.rest {
+            [t, ..] => Some(t.line),
+            [] => None,
+        }
+    }
+
+    /// The word of the token that stands here.
+    fn peek(&self) -> Option<Word>
+        ensures { result ≡ peeked self.now }
+    {
+        match self.rest {
+            [t, ..] => Some(word_at(
+                t.kind,
+                t.gap,
+                t.tight,
+                &self.text[t.from as usize..t.to as usize],
+            )),
+            [] => None,
+        }
+    }
+
+    /// Whether a blank stands before the second token from here, and its word.
+    fn peek_second(&self) -> Option<(bool, Word)>
+        ensures { result ≡ peeked_second self.now }
+    {
+        match self.rest {
+            [_, t, ..] => Some((
+                t.gap,
+                word_at(
+                    t.kind,
+                    t.gap,
+                    t.tight,
+                    &self.text[t.from as usize..t.to as usize],
+                ),
+            )),
+            _ => None,
+        }
+    }
+
+    /// The line of the token that stands here, or 0.
+    pub(crate) fn line(&self) -> u32
+        ensures { result ≡ first_line self.now }
+    {
+        match self.line_here() {
+            Some(line) => line,
+            None => 0,
+        }
+    }
+
+    /// Whether the name that stands here is the head of a command, and an argument may begin after it.
+    pub(crate) fn is_command(&self, room: u32) -> bool
+        ensures { result ≡ is_command (nat_lt 0 room) self.now }
+    {
+        self.at(Word::Name) && leads_second(room, self.peek_second())
+    }
+
+    /// Whether an assignment begins here.
+    pub(crate) fn is_assign(&self) -> bool
+        ensures { result ≡ is_assign self.now }
+    {
+        self.at(Word::Name) && sets_second(self.peek_second())
+    }
+
+    /// The token that stands here, which is passed.
+    fn bump(&mut self) -> Seen<'a>
+        requires { 0 < length self.old }
+        ensures passed { self.old ≡ seen result ∷ self.new }
+        ensures value { HasValue result.word result.bytes.now }
+    {
+        match self.rest {
+            [t, rest @ ..] => {
+                let bytes = &self.text[t.from as usize..t.to as usize];
+                let word = word_at(t.kind, t.gap, t.tight, bytes);
+                self.blocks = number_with(self.blocks, word);
+                self.rest = rest;
+                Seen {
+                    word,
+                    line: t.line,
+                    gap: t.gap,
+                    bytes,
+                    number: self.blocks,
+                }
+            }
+            [] => unreachable!(),
+        }
+    }
+
+    /// Whether a token of this word stands here.
+    pub(crate) fn at(&self, word: Word) -> bool
+        ensures { result ≡ peeked_in (just word) self.now }
+    {
+        match self.peek() {
+            Some(here) => same(word, here),
+            None => false,
+        }
+    }
+
+    /// Whether a token of a word of this class stands here.
+    pub(crate) fn at_class(&self, class: Class) -> bool
+        ensures { result ≡ peeked_in (class_words class) self.now }
+    {
+        match self.peek() {
+            Some(here) => is_of(class, here),
+            None => false,
+        }
+    }
+
+    /// Whether a token of this word stands here, and something more may be opened.
+    pub(crate) fn opens(&self, word: Word, room: u32) -> bool
+        ensures { result ≡ peeked_in (with_room (nat_lt 0 room) (just word)) self.now }
+    {
+        match self.peek() {
+            Some(here) => same(word, here) && 0 < room,
+            None => false,
+        }
+    }
+
+    /// Whether an expression may begin here.
+    pub(crate) fn at_expr(&self, room: u32) -> bool
+        ensures { result ≡ peeked_in (ExprStarts (nat_lt 0 room)) self.now }
+    {
+        match self.peek() {
+            Some(here) => starts_expr(room, here),
+            None => false,
+        }
+    }
+
+    /// Whether an argument may begin here.
+    pub(crate) fn at_arg(&self, room: u32) -> bool
+        ensures { result ≡ peeked_in (ArgStarts (nat_lt 0 room)) self.now }
+    {
+        match self.peek() {
+            Some(here) => starts_arg(room, here),
+            None => false,
+        }
+    }
+
+    /// Whether a statement may begin here.
+    pub(crate) fn at_stmt(&self, room: u32) -> bool
+        ensures { result ≡ peeked_in (StmtStarts (nat_lt 0 room)) self.now }
+    {
+        match self.peek() {
+            Some(here) => starts_stmt(room, here),
+            None => false,
+        }
+    }
+
+    /// Whether an index or a dot may begin here, where so many more may follow.
+    pub(crate) fn takes_part(&self, left: u32, room: u32) -> bool
+        ensures { result ≡ (nat_lt 0 left && peeked_in (PartStarts (nat_lt 0 room)) self.now) }
+    {
+        0 < left && self.at_part(room)
+    }
+
+    /// Whether an index or a dot may begin here.
+    fn at_part(&self, room: u32) -> bool
+        ensures { result ≡ peeked_in (PartStarts (nat_lt 0 room)) self.now }
+    {
+        match self.peek() {
+            Some(Word::Dot) => true,
+            Some(Word::IndexOpen) => 0 < room,
+            Some(_) => false,
+            None => false,
+        }
+    }
+
+    /// The token, where it has this word.
+    pub(crate) fn expect(&mut self, word: Word) -> Result<Seen<'a>, Fault>
+        ensures { ParsesAs seen (word_of_grammar word) self.old self.new result }
+    {
+        if self.at(word) {
+            Ok(self.bump())
+        } else {
+            Err(Fault::Here)
+        }
+    }
+
+    /// The token, where its word is of this class.
+    pub(crate) fn expect_class(&mut self, class: Class) -> Result<Seen<'a>, Fault>
+        ensures token { ParsesAs seen (among (class_words class)) self.old self.new result }
+        ensures value { IfOk result (λ token. HasValue token.word token.bytes.now) }
+    {
+        if self.at_class(class) {
+            Ok(self.bump())
+        } else {
+            Err(Fault::Here)
+        }
+    }
+}
+
+fn leads_second(room: u32, second: Option<(bool, Word)>) -> bool
+    ensures { result ≡ leads_second (nat_lt 0 room) second }
+{
+    match second {
+        Some((gap, word)) => gap && leads(word) && starts_arg(room, word),
+        None => false,
+    }
+}
+
+fn sets_second(second: Option<(bool, Word)>) -> bool
+    ensures { result ≡ sets_second second }
+{
+    match second {
+        Some((_, word)) => is_of(Class::Set, word),
+        None => false,
+    }
+}

@@ -1,0 +1,296 @@
+ghost use Rattle.std.specs.Prelude.{◌≡◌, ◌++◌, nat_lt, true, false, suc};
+ghost use Rattle.vt_parse.specs.Form.{many, many_from, mapped, optional};
+ghost use Rattle.vt_parse.specs.Form.{either};
+ghost use Rattle.vt_parse.specs.Grammar.{assign, block, block_where, elsif, line, modifier, names_of, next_param, opened, otherwise, params, rhs, simple, stmt};
+ghost use Rattle.vt_parse.specs.Parses.{Parses, ParsesAs, is_assign, seen};
+ghost use Rattle.vt_parse.specs.Trees.{present};
+ghost use Rattle.vt_tree.specs.declared.statement.Simple.TheVariants as simples;
+
+use crate::classes::Class;
+use crate::fault::Fault;
+use crate::make::{
+    add_present, first_name, first_stmts, is_unless, make_arm, make_assign, make_block, make_iff,
+    make_stmt, make_with_block, name_of, takes_block,
+};
+use crate::parser::Parser;
+use crate::seen::Seen;
+use crate::words::Word;
+use sqlite_items::Items;
+use std::alloc::Global;
+use vt_tree::{Arm, Arms, Block, Expr, Names, Simple, Stmt, Stmts};
+
+impl<'a> Parser<'a> {
+    #[cycle(parser)]
+    fn block_where(&mut self, alloc: Global, room: u32, takes: bool) -> Result<Option<Block>, Fault>
+        ensures { Parses (block_where (opened room) takes) self.old self.new result }
+    {
+        if !takes {
+            return Ok(None);
+        }
+        if self.opens(Word::Do, room) {
+            let block = self.doblock(alloc, room)?;
+            return Ok(Some(block));
+        }
+        Ok(None)
+    }
+
+    /// A command or an expression, and a `do` block where the tree before it takes one.
+    #[cycle(parser)]
+    fn rhs(&mut self, alloc: Global, room: u32) -> Result<Expr, Fault>
+        ensures { Parses (rhs (opened room)) self.old self.new result }
+    {
+        let value = self.cond(alloc, room)?;
+        let takes = takes_block(&value);
+        let block = self.block_where(alloc, room, takes)?;
+        make_with_block(alloc, value, block)
+    }
+
+    #[cycle(parser)]
+    fn assign(&mut self, alloc: Global, room: u32) -> Result<Simple, Fault>
+        requires { is_assign self.old ≡ true }
+        ensures { Parses (assign (opened room)) self.old self.new result }
+    {
+        let name = self.expect(Word::Name)?;
+        let op = self.expect_class(Class::Set)?;
+        let value = self.rhs(alloc, room)?;
+        make_assign(alloc, name.bytes, op.word, value)
+    }
+
+    /// An assignment or a value.
+    #[cycle(parser)]
+    fn plain_simple(&mut self, alloc: Global, room: u32) -> Result<Simple, Fault>
+        ensures { Parses (either (assign (opened room)) (mapped (λ e. simples.Value e) (rhs (opened room)))) self.old self.new result }
+    {
+        if self.is_assign() {
+            return self.assign(alloc, room);
+        }
+        let value = self.rhs(alloc, room)?;
+        Ok(Simple::Value(value))
+    }
+
+    #[cycle(parser)]
+    fn simple(&mut self, alloc: Global, room: u32) -> Result<Simple, Fault>
+        ensures { Parses (simple (opened room)) self.old self.new result }
+    {
+        if self.at_class(Class::Condition) {
+            return self.iff(alloc, room);
+        }
+        self.plain_simple(alloc, room)
+    }
+
+    /// `if` or `unless` after a statement: whether it is `unless`, and the condition.
+    #[cycle(parser)]
+    fn modifier(&mut self, alloc: Global, room: u32) -> Result<(bool, Expr), Fault>
+        ensures { Parses (modifier (opened room)) self.old self.new result }
+    {
+        let token = self.expect_class(Class::Condition)?;
+        let cond = self.cond(alloc, room)?;
+        Ok((is_unless(token.word), cond))
+    }
+
+    #[cycle(parser)]
+    fn maybe_modifier(&mut self, alloc: Global, room: u32) -> Result<Option<(bool, Expr)>, Fault>
+        ensures { Parses (optional (modifier (opened room))) self.old self.new result }
+    {
+        if self.at_class(Class::Condition) {
+            let modifier = self.modifier(alloc, room)?;
+            return Ok(Some(modifier));
+        }
+        Ok(None)
+    }
+
+    #[cycle(parser)]
+    fn stmt(&mut self, alloc: Global, room: u32) -> Result<Stmt, Fault>
+        ensures { Parses (stmt (opened room)) self.old self.new result }
+    {
+        let line = self.line();
+        let simple = self.simple(alloc, room)?;
+        let modifier = self.maybe_modifier(alloc, room)?;
+        Ok(make_stmt(line, simple, modifier))
+    }
+
+    #[cycle(parser)]
+    fn maybe_stmt(&mut self, alloc: Global, room: u32) -> Result<Option<Stmt>, Fault>
+        ensures { Parses (optional (stmt (opened room))) self.old self.new result }
+    {
+        if self.at_stmt(room) {
+            let stmt = self.stmt(alloc, room)?;
+            return Ok(Some(stmt));
+        }
+        Ok(None)
+    }
+
+    /// A statement or nothing after a newline.
+    #[cycle(parser)]
+    fn next_line(&mut self, alloc: Global, room: u32) -> Result<Option<Stmt>, Fault>
+        ensures { Parses (line (opened room)) self.old self.new result }
+    {
+        self.expect(Word::Newline)?;
+        self.maybe_stmt(alloc, room)
+    }
+
+    /// The statements of the lines after those that were found.
+    #[cycle(parser)]
+    fn lines(&mut self, alloc: Global, room: u32, found: Stmts) -> Result<Stmts, Fault>
+        ensures { Parses (mapped (λ more. found ++ present more) (many (line (opened room)))) self.old self.new result }
+    {
+        let mut all = found;
+        'lines: while self.at(Word::Newline) {
+            let next = self.next_line(alloc, room)?;
+            add_present(&mut all, next)?;
+        }
+        Ok(all)
+    }
+
+    /// Lines, each with a statement or none.
+    #[cycle(parser)]
+    pub(crate) fn block(&mut self, alloc: Global, room: u32) -> Result<Stmts, Fault>
+        ensures { Parses (block (opened room)) self.old self.new result }
+    {
+        let first = self.maybe_stmt(alloc, room)?;
+        let found = first_stmts(alloc, first)?;
+        self.lines(alloc, room, found)
+    }
+
+    fn next_param(&mut self) -> Result<Seen<'a>, Fault>
+        ensures { ParsesAs seen next_param self.old self.new result }
+    {
+        self.expect(Word::Comma)?;
+        self.expect(Word::Name)
+    }
+
+    /// The parameters after those that were found.
+    fn more_params(&mut self, alloc: Global, found: Names) -> Result<Names, Fault>
+        ensures { Parses (mapped (λ more. found ++ names_of more) (many next_param)) self.old self.new result }
+    {
+        let mut all = found;
+        'more: while self.at(Word::Comma) {
+            let param = self.next_param()?;
+            let name = name_of(alloc, param.bytes)?;
+            all.push(name)?;
+        }
+        Ok(all)
+    }
+
+    fn params(&mut self, alloc: Global) -> Result<Names, Fault>
+        ensures { Parses params self.old self.new result }
+    {
+        self.expect(Word::Bar)?;
+        let first = self.expect(Word::Name)?;
+        let found = first_name(alloc, first.bytes)?;
+        let names = self.more_params(alloc, found)?;
+        self.expect(Word::Bar)?;
+        Ok(names)
+    }
+
+    fn maybe_params(&mut self, alloc: Global) -> Result<Option<Names>, Fault>
+        ensures { Parses (optional params) self.old self.new result }
+    {
+        if self.at(Word::Bar) {
+            let names = self.params(alloc)?;
+            return Ok(Some(names));
+        }
+        Ok(None)
+    }
+
+    #[cycle(parser)]
+    fn braces(&mut self, alloc: Global, room: u32) -> Result<Block, Fault>
+        ensures { Parses (opened room).braces self.old self.new result }
+    {
+        if room == 0 {
+            return Err(Fault::Here);
+        }
+        let opening = self.expect(Word::BraceOpen)?;
+        let params = self.maybe_params(alloc)?;
+        let stmts = self.block(alloc, room - 1)?;
+        self.expect(Word::BraceClose)?;
+        Ok(make_block(alloc, opening.number, params, stmts))
+    }
+
+    #[cycle(parser)]
+    pub(crate) fn maybe_braces(&mut self, alloc: Global, room: u32) -> Result<Option<Block>, Fault>
+        ensures { Parses (optional (opened room).braces) self.old self.new result }
+    {
+        if self.opens(Word::BraceOpen, room) {
+            let block = self.braces(alloc, room)?;
+            return Ok(Some(block));
+        }
+        Ok(None)
+    }
+
+    #[cycle(parser)]
+    fn doblock(&mut self, alloc: Global, room: u32) -> Result<Block, Fault>
+        ensures { Parses (opened room).doblock self.old self.new result }
+    {
+        if room == 0 {
+            return Err(Fault::Here);
+        }
+        let opening = self.expect(Word::Do)?;
+        let params = self.maybe_params(alloc)?;
+        self.expect(Word::Newline)?;
+        let stmts = self.block(alloc, room - 1)?;
+        self.expect(Word::End)?;
+        Ok(make_block(alloc, opening.number, params, stmts))
+    }
+
+    #[cycle(parser)]
+    fn elsif(&mut self, alloc: Global, room: u32) -> Result<Arm, Fault>
+        ensures { Parses (elsif (opened room)) self.old self.new result }
+    {
+        self.expect(Word::Elsif)?;
+        let cond = self.cond(alloc, room)?;
+        self.expect(Word::Newline)?;
+        let stmts = self.block(alloc, room)?;
+        Ok(make_arm(false, cond, stmts))
+    }
+
+    #[cycle(parser)]
+    fn elsifs(&mut self, alloc: Global, room: u32) -> Result<Arms, Fault>
+        ensures { Parses (many (elsif (opened room))) self.old self.new result }
+    {
+        let mut found = Items::new(alloc);
+        'arms: while self.at(Word::Elsif) {
+            let arm = self.elsif(alloc, room)?;
+            found.push(arm)?;
+        }
+        Ok(found)
+    }
+
+    #[cycle(parser)]
+    fn otherwise(&mut self, alloc: Global, room: u32) -> Result<Stmts, Fault>
+        ensures { Parses (otherwise (opened room)) self.old self.new result }
+    {
+        self.expect(Word::Else)?;
+        self.block(alloc, room)
+    }
+
+    #[cycle(parser)]
+    fn maybe_otherwise(&mut self, alloc: Global, room: u32) -> Result<Option<Stmts>, Fault>
+        ensures { Parses (optional (otherwise (opened room))) self.old self.new result }
+    {
+        if self.at(Word::Else) {
+            let stmts = self.otherwise(alloc, room)?;
+            return Ok(Some(stmts));
+        }
+        Ok(None)
+    }
+
+    /// `if` or `unless` with its branches.
+    #[cycle(parser)]
+    fn iff(&mut self, alloc: Global, room: u32) -> Result<Simple, Fault>
+        ensures { Parses (opened room).iff self.old self.new result }
+    {
+        if room == 0 {
+            return Err(Fault::Here);
+        }
+        let opening = self.expect_class(Class::Condition)?;
+        let cond = self.cond(alloc, room - 1)?;
+        self.expect(Word::Newline)?;
+        let stmts = self.block(alloc, room - 1)?;
+        let more = self.elsifs(alloc, room - 1)?;
+        let other = self.maybe_otherwise(alloc, room - 1)?;
+        self.expect(Word::End)?;
+        let first = make_arm(is_unless(opening.word), cond, stmts);
+        make_iff(alloc, first, more, other)
+    }
+}

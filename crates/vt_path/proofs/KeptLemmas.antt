@@ -1,0 +1,30 @@
+use Rattle.std.proofs.Common.{ℕ, ◌≤◌, List, [], ◌∷◌, length, refl, inl, inr, lit≤}
+use Rattle.std.proofs.lemmas.List.Elements.{All-nil, All-cons, All-weaker}
+use Rattle.vt_path.specs.Path.{IsPath, IsSegment}
+use Rattle.vt_path.specs.Inner.{IsSymbolName, inner_of, kind_word}
+use Rattle.vt_path.specs.Kept.{IsKeptPath}
+use Rattle.vt_path.specs.declared.inner_path.InnerKind.{InnerKind}
+use Rattle.vt_path.specs.declared.inner_path.InnerKind.TheVariants.{Body, Def, Named, Looped}
+
+-- a path that a user writes is kept
+pub kept_path : (path : List (List ℕ)) → IsPath path → IsKeptPath path
+kept_path path good = record {
+  form = ∣ inl good ∣₁;
+  few = good.few;
+  short = All-weaker IsSegment (λ segment. length segment ≤ 64) (λ segment h. h.short) path good.segments;
+}
+
+kind_short : (kind : InnerKind) → length (kind_word kind) ≤ 64
+kind_short Body = lit≤ tt
+kind_short Def = lit≤ tt
+kind_short Named = lit≤ tt
+kind_short Looped = lit≤ tt
+
+-- an inner path too
+pub kept_inner : (kind : InnerKind) (name : List ℕ) → IsSymbolName name → IsKeptPath (inner_of kind name)
+kept_inner kind name symbol = record {
+  form = ∣ inr (record { kind = kind; name = name; symbol = symbol; whole = refl }) ∣₁;
+  few = lit≤ tt;
+  short = All-cons (λ segment. length segment ≤ 64) (kind_word kind) (name ∷ []) (kind_short kind)
+      (All-cons (λ segment. length segment ≤ 64) name [] symbol.short (All-nil (λ segment. length segment ≤ 64)));
+}

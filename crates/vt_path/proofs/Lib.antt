@@ -1,0 +1,15 @@
+pub mod ByteLemmas
+pub mod Lists
+pub mod PathSteps
+pub mod Fronts
+pub mod PatternNext
+pub mod PatternSteps
+pub mod PatternInside
+pub mod PatternAlternatives
+pub mod PatternEnds
+pub mod HoldsLemmas
+pub mod MarkLemmas
+pub mod KeptLemmas
+pub mod LiteralLemmas
+pub mod OneText
+pub mod AnyOfLemmas

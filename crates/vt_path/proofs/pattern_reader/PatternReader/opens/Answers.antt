@@ -1,0 +1,10 @@
+use Rattle.std.proofs.Common.{arith}
+use Rattle.vt_path.specs.PatternReading.{reading}
+use Rattle.vt_path.proofs.PatternSteps.{opens_steps, no_opening}
+use Rattle.vt_path.proofs.pattern_reader.PatternReader.opens.Goals as goal
+
+pub returns-then-self-gt-MOST_BYTES : goal.returns-then-self-gt-MOST_BYTES
+returns-then-self-gt-MOST_BYTES c byte opening = no_opening (reading c.args.self.now) c.args.place byte opening c.requires.place c.requires.sound (omega arith)
+
+pub returns : goal.returns
+returns c byte opening = opens_steps (reading c.args.self.now) c.args.place byte opening c.requires.place c.requires.sound (omega arith)

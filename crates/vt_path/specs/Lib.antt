@@ -1,0 +1,12 @@
+pub mod AnyOf
+pub mod Byte
+pub mod Inner
+pub mod Kept
+pub mod KeptPattern
+pub mod Marks
+pub mod Match
+pub mod Path
+pub mod PathReading
+pub mod Pattern
+pub mod PatternReading
+pub mod Stop

@@ -1,0 +1,4 @@
+pub mod DrawLemmas
+pub mod KnownWords
+pub mod Period
+pub mod WordLemmas

@@ -1,0 +1,14 @@
+pub mod Answers
+pub mod Arithmetic
+pub mod Comparison
+pub mod Faults
+pub mod formers
+pub mod Kinds
+pub mod Operands
+pub mod Same
+pub mod Sizes
+pub mod SymbolName
+pub mod Text
+pub mod Totals
+pub mod Walks
+pub mod Weights
