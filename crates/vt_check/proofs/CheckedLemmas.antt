@@ -5,8 +5,8 @@ use Rattle.std.specs.Result.{IsErrAnd}
 use Rattle.std.proofs.lemmas.Bool.{eq-eqb, ne_eqb}
 use Rattle.std.proofs.lemmas.Result.{err_from_is_err_and}
 use Rattle.vt_tree.specs.declared.statement.Block.{Block, out-Block}
-use Rattle.vt_check.specs.Parts.{blocks, children, in_block, in_text, whole_block}
-use Rattle.vt_check.specs.WellFormed.{IsNumbered}
+use Rattle.vt_tree.specs.Parts.{blocks, children, in_block, in_text, whole_block}
+use Rattle.vt_tree.specs.WellFormed.{IsNumbered}
 use Rattle.vt_check.specs.declared.fault.CheckFault.{CheckFault}
 use Rattle.vt_check.specs.declared.fault.CheckFault.TheVariants.{At, NoMemory}
 use Rattle.vt_check.specs.Checked.{block_with, Finds, IsCause, IsSoundBlock}

@@ -4,7 +4,7 @@ use Rattle.std.specs.List.{All}
 use Rattle.std.proofs.lemmas.List.Elements.{All-cons, All-head, All-nil, All-tail}
 use Rattle.std.proofs.lemmas.Bool.{eq-eqb, ne_eqb}
 use Rattle.vt_tree.specs.declared.statement.Block.{Block, out-Block}
-use Rattle.vt_check.specs.Parts.{Part, called, opened, Place, Walk, Site, blocks_of, each, in_block, sites_of}
+use Rattle.vt_tree.specs.Parts.{Part, called, opened, Place, Walk, Site, blocks_of, each, in_block, sites_of}
 use Rattle.vt_check.specs.Checked.{block_with, Finds}
 use Rattle.vt_check.specs.Verdict.{IsSound}
 use Rattle.vt_check.proofs.JudgingLemmas.{drop_item, drop_past, sites_of-append}

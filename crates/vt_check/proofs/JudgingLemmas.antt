@@ -6,7 +6,7 @@ use Rattle.std.proofs.lemmas.List.{drop_more, drop_all}
 use Rattle.std.proofs.lemmas.List.Elements.{All-append, All-cons}
 use Rattle.std.proofs.lemmas.Result.{err_from_is_err_and}
 use Rattle.vt_tree.specs.declared.statement.Block.{Block}
-use Rattle.vt_check.specs.Parts.{Part, called, opened, Place, Walk, Site, sites_of, each}
+use Rattle.vt_tree.specs.Parts.{Part, called, opened, Place, Walk, Site, sites_of, each}
 use Rattle.vt_check.specs.declared.fault.CheckKind.{CheckKind}
 use Rattle.vt_check.specs.declared.fault.CheckFault.{CheckFault}
 use Rattle.vt_check.specs.declared.fault.CheckFault.TheVariants.{At, NoMemory}

@@ -1,11 +1,11 @@
--- A tree is allowed, or refused for one fault.
-use Rattle.std.proofs.Common.{◌≡◌, ℕ, List, [], ◌∷◌, ◌++◌, inl, inr, refl, sym, ap, ◌∙◌, subst, arith}
+-- No tree is both allowed and refused, or refused for two faults.
+use Rattle.std.proofs.Common.{◌≡◌, ℕ, List, [], ◌∷◌, ◌++◌, inl, inr, sym, ap, ◌∙◌, subst}
 use Rattle.std.specs.List.{All}
-use Rattle.std.proofs.lemmas.List.Elements.{All-cons, All-head, All-tail}
-use Rattle.vt_check.specs.Parts.{Site, sites}
+use Rattle.std.proofs.lemmas.List.Elements.{All-head, All-tail}
+use Rattle.vt_tree.specs.Parts.{Site, sites}
 use Rattle.vt_check.specs.declared.fault.CheckKind.{CheckKind}
-use Rattle.vt_check.specs.Laws.{NeverBoth, OneFault, NeverNeither}
-use Rattle.vt_check.specs.Verdict.{checks, CheckRefuses, Fails, FirstFault, HasFirst, HasNone, IsAllowed, IsFaultOf, IsSound}
+use Rattle.vt_check.specs.Laws.{NeverBoth, OneFault}
+use Rattle.vt_check.specs.Verdict.{checks, CheckRefuses, FirstFault, HasFirst, HasNone, IsAllowed, IsFaultOf, IsSound}
 
 -- of one call
 no_first : (kinds : List CheckKind) (s : Site) (found : CheckKind) → HasNone kinds s → HasFirst kinds s found → ⊥
@@ -20,12 +20,6 @@ same_first (kind ∷ kinds) s found found' (inl (f, e)) (inr (f', h')) = absurd 
 same_first (kind ∷ kinds) s found found' (inr (f, h)) (inl (f', e')) = absurd (f f')
 same_first (kind ∷ kinds) s found found' (inr (f, h)) (inr (f', h')) = same_first kinds s found found' h h'
 
-some_first : (kinds : List CheckKind) (s : Site) → (HasNone kinds s → ⊥) → ((found : CheckKind) → HasFirst kinds s found → ⊥) → ⊥
-some_first [] s n h = n tt
-some_first (kind ∷ kinds) s n h =
-    let passes : Fails kind s → ⊥ = λ f. h kind (inl (f, refl)) in
-    some_first kinds s (λ r. n (passes, r)) (λ found g. h found (inr (passes, g)))
-
 sound_or_faulty : (s : Site) (kind : CheckKind) → IsSound s → IsFaultOf s kind → ⊥
 unfolding IsSound IsFaultOf
 sound_or_faulty s kind n h = no_first checks s kind n h
@@ -33,10 +27,6 @@ sound_or_faulty s kind n h = no_first checks s kind n h
 same_fault : (s : Site) (kind kind' : CheckKind) → IsFaultOf s kind → IsFaultOf s kind' → kind ≡ kind'
 unfolding IsFaultOf
 same_fault s kind kind' h h' = same_first checks s kind kind' h h'
-
-neither_sound_nor_faulty : (s : Site) → (IsSound s → ⊥) → ((kind : CheckKind) → IsFaultOf s kind → ⊥) → ⊥
-unfolding IsSound IsFaultOf
-neither_sound_nor_faulty s n h = some_first checks s n h
 
 -- of calls in their order
 all_middle : (before : List Site) (call : Site) (after : List Site) → All IsSound (before ++ call ∷ after) → IsSound call
@@ -63,29 +53,6 @@ one_fault_of calls line line' kind kind' f g =
     let same : f.call ≡ g.call = same_call f.before g.before f.call g.call f.after g.after kind kind' (sym f.whole ∙ g.whole) f.sound g.sound f.fault g.fault in
     (f.here ∙ ap (λ (s : Site). s.place.line) same ∙ sym g.here, same_fault g.call kind kind' (subst (λ c. IsFaultOf c kind) same f.fault) g.fault)
 
-never_neither_of : (calls : List Site) → (All IsSound calls → ⊥) → ((line : ℕ) (kind : CheckKind) → FirstFault calls line kind → ⊥) → ⊥
-never_neither_of [] n h = n (λ k d i. absurd (omega arith))
-never_neither_of (x ∷ calls) n h =
-    neither_sound_nor_faulty x
-    (λ sound. never_neither_of calls (λ all. n (All-cons IsSound x calls sound all)) (λ line kind f. h line kind (record {
-      before = x ∷ f.before;
-      call = f.call;
-      after = f.after;
-      whole = ap (λ cs. x ∷ cs) f.whole;
-      sound = All-cons IsSound x f.before sound f.sound;
-      fault = f.fault;
-      here = f.here;
-    })))
-    (λ kind f. h x.place.line kind (record {
-      before = [];
-      call = x;
-      after = calls;
-      whole = refl;
-      sound = λ k d i. absurd (omega arith);
-      fault = f;
-      here = refl;
-    }))
-
 pub never_both : NeverBoth
 unfolding IsAllowed CheckRefuses
 never_both tree line kind h f = never_both_of (sites tree) line kind h f
@@ -93,7 +60,3 @@ never_both tree line kind h f = never_both_of (sites tree) line kind h f
 pub one_fault : OneFault
 unfolding CheckRefuses
 one_fault tree line line' kind kind' f g = one_fault_of (sites tree) line line' kind kind' f g
-
-pub never_neither : NeverNeither
-unfolding IsAllowed CheckRefuses
-never_neither tree n h = never_neither_of (sites tree) n h

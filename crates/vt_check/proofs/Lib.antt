@@ -1,6 +1,6 @@
 pub mod CheckedLemmas
 pub mod FindLemmas
+pub mod JudgedLemmas
 pub mod JudgingLemmas
 pub mod LawLemmas
 pub mod PathLemmas
-pub mod PartsLemmas

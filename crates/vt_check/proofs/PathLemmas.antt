@@ -2,7 +2,7 @@
 use Rattle.std.proofs.Common.{◌≡◌, ◌↔◌, ℕ, ◌+◌, ◌<◌, ◌≤◌, ◌⊎◌, inl, inr, List, [], ◌∷◌, length, get_or, drop, Bool, true, false, not, IsTrue, Option, Some, Result, Ok, Err, IfOk, refl, sym, ap, ◌∙◌, subst, true≢false}
 use Rattle.std.specs.Prelude.{slice_get}
 use Rattle.std.specs.Bool.{MatchBool}
-use Rattle.vt_check.specs.Forms.{is_symbol_name}
+use Rattle.vt_tree.specs.Forms.{is_symbol_name}
 use Rattle.vt_tree.specs.declared.expression.Expr.{Expr}
 use Rattle.vt_check.specs.Written.{first_of}
 use Rattle.vt_check.specs.Conditions.{begins_with_slash, IsRefused, IsRefusedOption, first_text, HasRefusedOption, IfText}

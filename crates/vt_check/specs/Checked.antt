@@ -2,8 +2,8 @@
 use Rattle.std.specs.Prelude.{◌≡◌, ℕ, ◌==◌, cond, List, [], ◌∷◌, Option, Some, None, slice_get}
 use Rattle.std.specs.List.{All}
 use Rattle.vt_tree.specs.declared.statement.Block.{Block, out-Block}
-use Rattle.vt_check.specs.Parts.{Place, Walk, blocks, blocks_of, in_block, sites_of}
-use Rattle.vt_check.specs.WellFormed.{IsWellFormed}
+use Rattle.vt_tree.specs.Parts.{Place, Walk, blocks, blocks_of, in_block, sites_of}
+use Rattle.vt_tree.specs.WellFormed.{IsWellFormed}
 use Rattle.vt_check.specs.declared.fault.CheckFault.{CheckFault}
 use Rattle.vt_check.specs.declared.fault.CheckFault.TheVariants.{At, NoMemory}
 use Rattle.vt_check.specs.Verdict.{IsAllowed, IsSound, CheckRefuses}

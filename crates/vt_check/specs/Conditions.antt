@@ -10,8 +10,8 @@ use Rattle.vt_table.specs.declared.calls.Need.{Need}
 use Rattle.vt_table.specs.declared.calls.Need.TheVariants.{None as Without, Must, May}
 use Rattle.vt_tree.specs.declared.expression.Expr.{Expr}
 use Rattle.vt_tree.specs.declared.statement.Block.{Block, out-Block}
-use Rattle.vt_check.specs.Forms.{is_symbol_name}
-use Rattle.vt_check.specs.Parts.{Site}
+use Rattle.vt_tree.specs.Forms.{is_symbol_name}
+use Rattle.vt_tree.specs.Parts.{Site}
 use Rattle.vt_check.specs.Written.{is_call, is_among, row_of, args_of, options_of, block_of, has_arguments, is_written_out, count_of, symbol_of, text_of, first_of, has_twice, methods}
 
 -- 1. `define` is no statement of the text itself. With a condition after it, it is one; in a branch or after a dot it is none.

@@ -1,7 +1,7 @@
 -- What a walk over a tree has to find.
 use Rattle.std.specs.Prelude.{List, Result, Ok, Err, Option, Some, None}
 use Rattle.std.specs.List.{All}
-use Rattle.vt_check.specs.Parts.{Part, Place, Site, sites_of}
+use Rattle.vt_tree.specs.Parts.{Part, Place, Site, sites_of}
 use Rattle.vt_tree.specs.declared.expression.Call.{Call}
 use Rattle.vt_check.specs.declared.fault.CheckKind.{CheckKind}
 use Rattle.vt_check.specs.declared.fault.CheckFault.{CheckFault}

@@ -1,5 +1,5 @@
 -- The laws of the checks.
-use Rattle.std.specs.Prelude.{◌≡◌, ℕ}
+use Rattle.std.specs.Prelude.{◌≡◌, ◌⊎◌, ℕ}
 use Rattle.vt_tree.specs.declared.statement.Block.{Block}
 use Rattle.vt_check.specs.declared.fault.CheckKind.{CheckKind}
 use Rattle.vt_check.specs.Verdict.{IsAllowed, CheckRefuses}
@@ -12,6 +12,6 @@ NeverBoth = (tree : Block) (line : ℕ) (kind : CheckKind) → IsAllowed tree �
 abbrev pub OneFault : Type 0
 OneFault = (tree : Block) (line line' : ℕ) (kind kind' : CheckKind) → CheckRefuses tree line kind → CheckRefuses tree line' kind' → (line ≡ line') × (kind ≡ kind')
 
--- there is no tree that is neither allowed nor refused
-abbrev pub NeverNeither : Type 0
-NeverNeither = (tree : Block) → (IsAllowed tree → ⊥) → ((line : ℕ) (kind : CheckKind) → CheckRefuses tree line kind → ⊥) → ⊥
+-- a tree is allowed, or refused for a fault
+abbrev pub AlwaysOne : Type 0
+AlwaysOne = (tree : Block) → IsAllowed tree ⊎ ((line : ℕ) × (kind : CheckKind) × CheckRefuses tree line kind)

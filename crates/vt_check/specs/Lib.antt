@@ -1,9 +1,7 @@
 pub mod Checked
 pub mod Conditions
-pub mod Forms
+pub mod Judged
 pub mod Judging
 pub mod Laws
-pub mod Parts
 pub mod Verdict
-pub mod WellFormed
 pub mod Written

@@ -2,7 +2,7 @@
 use Rattle.std.specs.Prelude.{◌≡◌, ℕ, true, List, [], ◌∷◌, ◌++◌, ◌⊎◌}
 use Rattle.std.specs.List.{All}
 use Rattle.vt_tree.specs.declared.statement.Block.{Block}
-use Rattle.vt_check.specs.Parts.{Site, sites}
+use Rattle.vt_tree.specs.Parts.{Site, sites}
 use Rattle.vt_check.specs.declared.fault.CheckKind.{CheckKind}
 use Rattle.vt_check.specs.declared.fault.CheckKind.TheVariants.{DefinePlace, Name, Taken, Method, Count, Opt, Block as WrongBlock, Params, Path}
 use Rattle.vt_check.specs.Conditions.{is_misplaced, is_misnamed, is_taken, is_no_method, is_miscounted, has_bad_option, has_wrong_block, has_wrong_params, HasRefusedPath}

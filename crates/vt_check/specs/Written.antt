@@ -15,7 +15,7 @@ use Rattle.vt_tree.specs.declared.statement.Block.{Block}
 use Rattle.vt_tree.specs.declared.statement.Simple.{Simple}
 use Rattle.vt_tree.specs.declared.statement.Stmt.{Stmt}
 use Rattle.vt_tree.specs.declared.statement.StmtForm.{StmtForm}
-use Rattle.vt_check.specs.Parts.{Site}
+use Rattle.vt_tree.specs.Parts.{Site}
 
 -- the name of a call
 abbrev pub name_of : Site → List ℕ

@@ -1,7 +1,7 @@
 //! The block of a number, by a walk over the tree.
 
 ghost use Rattle.std.specs.Prelude.{option_copied};
-ghost use Rattle.vt_check.specs.Parts.{children, each, in_arm, in_call, in_expr, in_form, in_link, in_node, in_simple, in_stmt, whole_block};
+ghost use Rattle.vt_tree.specs.Parts.{children, each, in_arm, in_call, in_expr, in_form, in_link, in_node, in_simple, in_stmt, whole_block};
 ghost use Rattle.vt_check.specs.Checked.{Finds};
 
 use vt_frac::Name;

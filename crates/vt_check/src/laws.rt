@@ -1,6 +1,7 @@
 //! Laws of the checks: each function does nothing, and its contract is the law.
 
-ghost use Rattle.vt_check.specs.Laws.{NeverBoth, NeverNeither, OneFault};
+ghost use Rattle.vt_check.specs.Judged.{IsAllowedWhereAllowed, IsRefusedWhereRefused};
+ghost use Rattle.vt_check.specs.Laws.{AlwaysOne, NeverBoth, OneFault};
 
 /// No tree is both allowed and refused.
 pub fn never_both()
@@ -12,7 +13,14 @@ pub fn one_fault()
     ensures { OneFault }
 {}
 
-/// There is no tree that is neither allowed nor refused.
-pub fn never_neither()
-    ensures { NeverNeither }
+/// A tree is allowed, or refused for a fault.
+pub fn always_one()
+    ensures { AlwaysOne }
+{}
+
+/// `judged_of` of a tree is that it is allowed exactly where it is, and a line and a kind exactly where it is refused for
+/// them.
+pub fn verdict_law()
+    ensures allowed { IsAllowedWhereAllowed }
+    ensures refused { IsRefusedWhereRefused }
 {}

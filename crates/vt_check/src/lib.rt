@@ -16,4 +16,4 @@ mod written;
 
 pub use checked::{Checked, check};
 pub use fault::{CheckFault, CheckKind};
-pub use laws::{never_both, never_neither, one_fault};
+pub use laws::{always_one, never_both, one_fault, verdict_law};

@@ -5,7 +5,7 @@ ghost use Rattle.std.specs.Bool.{MatchBool};
 ghost use Rattle.std.specs.List.{list_all};
 ghost use Rattle.vt_path.specs.Path.{IsPathText};
 ghost use Rattle.vt_path.specs.Pattern.{IsPatternText};
-ghost use Rattle.vt_check.specs.Forms.{begins, is_name_byte, is_large_letter, is_small_letter, is_symbol_name, is_underscore};
+ghost use Rattle.vt_tree.specs.Forms.{begins, is_name_byte, is_large_letter, is_small_letter, is_symbol_name, is_underscore};
 ghost use Rattle.vt_check.specs.Written.{is_among};
 ghost use Rattle.vt_check.specs.Conditions.{begins_with_slash, first_text, HasRefusedOption, HasRefusedPath, IfText, IsRefused, IsRefusedOption};
 ghost use Rattle.vt_check.specs.Judging.{site_of};
@@ -155,7 +155,7 @@ fn begins_with_slash(text: &[u8]) -> bool
 }
 
 /// A letter or `_`, and then letters, digits and `_`, at most 64 bytes in all.
-#[tactic(auto, unfolding(crate::specs::Forms::is_symbol_name))]
+#[tactic(auto, unfolding(vt_tree::specs::Forms::is_symbol_name))]
 fn is_symbol_name(text: &[u8]) -> bool
     ensures { result ≡ is_symbol_name text.now }
 {

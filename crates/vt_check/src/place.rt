@@ -1,5 +1,5 @@
 ghost use Rattle.std.specs.Prelude.{◌≡◌};
-ghost use Rattle.vt_check.specs.Parts.{after_dot, at_line, in_text, inside};
+ghost use Rattle.vt_tree.specs.Parts.{after_dot, at_line, in_text, inside};
 ghost use Rattle.vt_check.specs.Judging.{place_of};
 
 /// Where a part of a tree stands.

@@ -1,4 +1,4 @@
-ghost use Rattle.vt_check.specs.WellFormed.{IsWellFormed};
+ghost use Rattle.vt_tree.specs.WellFormed.{IsWellFormed};
 
 use crate::find::find_block;
 use crate::place::Place;

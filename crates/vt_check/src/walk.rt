@@ -1,4 +1,4 @@
-ghost use Rattle.vt_check.specs.Parts.{each, children, in_arm, in_block, in_call, in_expr, in_link, in_node, in_simple, in_form, in_stmt, if_there, site, whole_block, inside};
+ghost use Rattle.vt_tree.specs.Parts.{each, children, in_arm, in_block, in_call, in_expr, in_link, in_node, in_simple, in_form, in_stmt, if_there, site, whole_block, inside};
 ghost use Rattle.vt_check.specs.Judging.{Judges, place_of};
 
 use crate::fault::CheckFault;

@@ -10,14 +10,15 @@ use Rattle.vt_frac.specs.declared.fault.FracFault.{FracFault}
 use Rattle.vt_frac.specs.declared.fault.FracFault.TheVariants.{Overflow as FracOverflow}
 use Rattle.vt_frac.specs.Arithmetic.{sum_of}
 use Rattle.vt_event.specs.declared.event.Event.{Event}
-use Rattle.vt_event.specs.declared.event.FaultKind.TheVariants.{Overflow}
+use Rattle.vt_event.specs.EventsByKind.{fault_event}
+use Rattle.vt_value.specs.declared.fault.FaultKind.TheVariants.{Overflow}
 use Rattle.vt_event.specs.declared.score.Score.{Score}
 use Rattle.vt_cli.specs.declared.line.Line.{Line}
 use Rattle.vt_cli.specs.declared.line.Note.{Note}
 use Rattle.vt_cli.specs.declared.line.Line.TheVariants.{Play, Sleep}
 use Rattle.vt_cli.specs.declared.piece.NextTime.{NextTime}
 use Rattle.vt_cli.specs.declared.piece.NextTime.TheVariants.{Before, AtOrPast, Unfit}
-use Rattle.vt_cli.specs.Piece.{asleep_until, ended, fault_event, horizon, is_action, is_below, next_time_of, line_score, note_event, place_after, place_at, preceded, rest_of, rest_score, score_after, time_after}
+use Rattle.vt_cli.specs.Piece.{asleep_until, ended, horizon, is_action, is_below, next_time_of, line_score, note_event, place_after, place_at, preceded, rest_of, rest_score, score_after, time_after}
 
 -- So far the first i lines of a piece gave these events, and the thread stands at this time with this step next.
 pub record Played (lines : List Line) (i : ℕ) (events : List Event) (time : Fraction) (step : ℕ) : Type 0 where

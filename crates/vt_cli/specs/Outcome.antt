@@ -2,8 +2,8 @@
 use Rattle.std.specs.Prelude.{ℕ, Bool, true, false, List, [], ◌∷◌, ◌++◌, if◌then◌else◌, Option, None, Some, codes, length, nat_le, not, ◌≡◌, ◌<◌, ◌≤◌, IsSomeAnd}
 use Rattle.std.specs.List.{list_any}
 use Rattle.std.specs.Str.{bytes_eq}
-use Rattle.vt_event.specs.declared.event.Kind.{Kind}
-use Rattle.vt_event.specs.declared.event.Kind.TheVariants.{Play, Fault}
+use Rattle.vt_event.specs.declared.kind.Kind.{Kind}
+use Rattle.vt_event.specs.declared.kind.Kind.TheVariants.{Fault}
 use Rattle.vt_event.specs.declared.score.Score.{Score}
 use Rattle.vt_text.specs.ScoreText.{newline, score_text_of}
 use Rattle.vt_cli.specs.declared.command.Command.{Command}
@@ -41,8 +41,8 @@ too_long = record { status = TooLong; text = codes "too long" ++ newline }
 
 -- the event is a fault
 abbrev pub is_fault : Kind → Bool
-is_fault Play = false
 is_fault (Fault kind) = true
+is_fault _ = false
 
 -- the score holds a fault event
 abbrev pub has_fault : Score → Bool

@@ -1,14 +1,14 @@
 -- The meaning of a piece of notes and rests. After FARM 2014 for the time: a rest adds to the virtual time of its
 -- thread, and the virtual time of one part and then another is the sum of both.
-use Rattle.std.specs.Prelude.{ℕ, ◌+◌, ℤ, pos, ◌*ℤ◌, Bool, true, false, if◌then◌else◌, List, [], ◌∷◌, ◌++◌, Option, None, Some, length, map, fold, count_by, position}
+use Rattle.std.specs.Prelude.{ℕ, ◌+◌, ℤ, pos, ◌*ℤ◌, Bool, true, false, if◌then◌else◌, List, [], ◌∷◌, ◌++◌, Option, None, Some, codes, length, map, fold, count_by, position}
 use Rattle.std.specs.List.{filter_map}
 use Rattle.std.specs.Ordering.{int_cmp, is_lt}
 use Rattle.vt_frac.specs.Fraction.{Fraction, whole, fits}
 use Rattle.vt_frac.specs.Arithmetic.{sum_of}
 use Rattle.vt_event.specs.declared.place.Place.{Place}
-use Rattle.vt_event.specs.declared.event.FaultKind.{FaultKind}
-use Rattle.vt_event.specs.declared.event.FaultKind.TheVariants.{Overflow, Syntax}
-use Rattle.vt_event.specs.declared.event.Kind.TheVariants.{Play as PlayEvent, Fault}
+use Rattle.vt_value.specs.declared.fault.FaultKind.TheVariants.{Overflow, Syntax}
+use Rattle.vt_value.specs.declared.value.Value.TheVariants.{Whole}
+use Rattle.vt_event.specs.EventsByKind.{fault_event, play_event}
 use Rattle.vt_event.specs.declared.event.Event.{Event}
 use Rattle.vt_event.specs.declared.score.LivingState.TheVariants.{Asleep}
 use Rattle.vt_event.specs.declared.score.Score.{Score}
@@ -48,13 +48,9 @@ place_at time step = record { time = time; micro = 0; thread = 1 ∷ []; step = 
 unfoldable pub place_after : List Line → Place
 place_after before = place_at (time_after before) (count_by is_action before + 1)
 
--- a note is played
+-- a note is played by the synth at the start, without options or effect
 abbrev pub note_event : Place → ℤ → Event
-note_event place note = record { place = place; kind = PlayEvent; note = note; line = 0 }
-
--- a fault, with its line
-abbrev pub fault_event : Place → FaultKind → ℕ → Event
-fault_event place kind line = record { place = place; kind = Fault kind; note = pos 0; line = line }
+note_event place note = play_event place (codes "beep") (Whole note) [] None
 
 -- the thread came to its end
 abbrev pub ended : Score

@@ -55,7 +55,7 @@ fn has_fault(events: &[Event]) -> bool
 {
     events
         .iter()
-        .any(|event| matches!(event.kind, Kind::Fault(_)))
+        .any(|event| matches!(event.kind(), Kind::Fault(_)))
 }
 
 fn render(alloc: Global, input: &[u8]) -> Result<Answer, NoMemory>

@@ -1,24 +1,27 @@
-// Whether a text can be read.
+// Whether a text can be read and is allowed.
 ghost use Rattle.std.specs.Prelude.{◌≡◌, ◌≤◌, ◌++◌, IfOk, decimal, length};
 ghost use Rattle.vt_text.specs.ScoreText.{newline};
 ghost use Rattle.vt_cli.specs.Reading.{limit};
-ghost use Rattle.vt_cli.specs.Verdict.{is_good, lex_word, verdict_of, verdict_text};
+ghost use Rattle.vt_cli.specs.Verdict.{check_word, is_good, lex_word, verdict_of, verdict_text};
 
 use itoa::Buffer;
 use std::alloc::Global;
+use vt_check::{CheckFault, CheckKind, check};
 use vt_frac::NoMemory;
 use vt_lex::{LexFault, LexKind, lex};
 use vt_parse::{SyntaxFault, parse};
 
-/// What comes of reading a text.
+/// What comes of reading and checking a text.
 #[derive(Clone, Copy, Debug, PartialEq, Eq)]
 pub enum Verdict {
-    /// It is read.
+    /// It is read, and the checks allow it.
     Good,
     /// It has no tokens: its first fault.
     Lex { line: u32, kind: LexKind },
     /// Its tokens are no piece: the line of the first token with which no text begins, or of the end.
     Syntax { line: u32 },
+    /// Its tree is not allowed: the first fault in the order of the tokens, with the line of its statement.
+    Check { line: u32, kind: CheckKind },
 }
 
 impl Verdict {
@@ -29,6 +32,7 @@ impl Verdict {
             Verdict::Good => true,
             Verdict::Lex { .. } => false,
             Verdict::Syntax { .. } => false,
+            Verdict::Check { .. } => false,
         }
     }
 }
@@ -43,10 +47,15 @@ pub fn verdict_of(alloc: Global, text: &[u8]) -> Result<Verdict, NoMemory>
         Err(LexFault::At { line, kind }) => return Ok(Verdict::Lex { line, kind }),
         Err(LexFault::NoMemory) => return Err(NoMemory),
     };
-    match parse(alloc, text, &tokens) {
+    let tree = match parse(alloc, text, &tokens) {
+        Ok(tree) => tree,
+        Err(SyntaxFault::At { line }) => return Ok(Verdict::Syntax { line }),
+        Err(SyntaxFault::NoMemory) => return Err(NoMemory),
+    };
+    match check(alloc, tree) {
         Ok(_) => Ok(Verdict::Good),
-        Err(SyntaxFault::At { line }) => Ok(Verdict::Syntax { line }),
-        Err(SyntaxFault::NoMemory) => Err(NoMemory),
+        Err(CheckFault::At { line, kind }) => Ok(Verdict::Check { line, kind }),
+        Err(CheckFault::NoMemory) => Err(NoMemory),
     }
 }
 
@@ -58,6 +67,22 @@ fn lex_word(kind: LexKind) -> &'static [u8]
         LexKind::Text => b"text",
         LexKind::Number => b"number",
         LexKind::Long => b"long",
+    }
+}
+
+fn check_word(kind: CheckKind) -> &'static [u8]
+    ensures { result.now ≡ check_word kind }
+{
+    match kind {
+        CheckKind::DefinePlace => b"define_place",
+        CheckKind::Name => b"name",
+        CheckKind::Taken => b"taken",
+        CheckKind::Method => b"method",
+        CheckKind::Count => b"count",
+        CheckKind::Opt => b"option",
+        CheckKind::Block => b"block",
+        CheckKind::Params => b"params",
+        CheckKind::Path => b"path",
     }
 }
 
@@ -85,6 +110,12 @@ pub fn verdict_text(alloc: Global, verdict: Verdict) -> Result<Vec<u8>, NoMemory
         }
         Verdict::Syntax { line } => {
             with_number(Vec::from_slice(alloc, b"text 1 syntax ")?, line)
+        }
+        Verdict::Check { line, kind } => {
+            let mut text = Vec::from_slice(alloc, b"text 1 check ")?;
+            text.extend_from_slice(check_word(kind))?;
+            text.extend_from_slice(b" ")?;
+            with_number(text, line)
         }
     }
 }

@@ -9,11 +9,12 @@ ghost use Rattle.vt_cli.specs.FirstPart.{BeginsWord, line_and_more, word_and_mor
 
 use std::alloc::Global;
 use vt_frac::{DecimalFault, Frac, NoMemory};
+use vt_value::Integer;
 
 /// A note, by its number.
 #[derive(Clone, Copy, Debug, PartialEq, Eq)]
 pub struct Note {
-    pub number: i64,
+    pub number: Integer,
 }
 
 /// What a line says.
@@ -79,9 +80,10 @@ fn play_of(number: Result<Frac, DecimalFault>) -> Line
     ensures { result ≡ play_of number }
 {
     match number {
-        Ok(note) => Line::Play(Note {
-            number: note.numer(),
-        }),
+        Ok(note) => match Integer::new(note.numer()) {
+            Some(number) => Line::Play(Note { number }),
+            None => unreachable!(),
+        },
         Err(_) => Line::Refused,
     }
 }

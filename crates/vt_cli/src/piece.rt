@@ -2,14 +2,13 @@
 ghost use Rattle.std.specs.Prelude.{◌≡◌, ◌+◌, ◌^◌, ◌<◌, ◌≤◌, ◌∷◌, [], List, length, pos, position, IfOk, IfSome};
 ghost use Rattle.vt_frac.specs.Fraction.{Fraction, whole};
 ghost use Rattle.vt_frac.specs.Arithmetic.{sum_of};
-ghost use Rattle.vt_cli.specs.Piece.{horizon, next_time_of, note_event, fault_event, place_at, asleep_until, ended, preceded, score_after, score_of, score_of_lines, is_refused, refused_score};
+ghost use Rattle.vt_cli.specs.Piece.{horizon, next_time_of, note_event, place_at, asleep_until, ended, preceded, score_after, score_of, score_of_lines, is_refused, refused_score};
 
 use crate::line::{Line, Note, read_lines};
 use std::alloc::Global;
-use vt_event::{
-    Event, Events, FaultKind, Kind, Living, LivingState, Livings, Place, Score, ThreadId,
-};
-use vt_frac::{Frac, NoMemory};
+use vt_event::{Event, Events, Living, LivingState, Livings, Options, Place, Score, ThreadId};
+use vt_frac::{Frac, Name, NoMemory};
+use vt_value::{FaultKind, Value};
 
 /// The number of the one text, and so of its thread.
 const TEXT: u32 = 1;
@@ -63,26 +62,12 @@ fn place(alloc: Global, time: Frac, step: u32) -> Place
     }
 }
 
-fn note_event(place: Place, note: Note) -> Event
-    ensures { result ≡ note_event place note.number }
+fn note_event(alloc: Global, place: Place, note: Note) -> Result<Event, NoMemory>
+    ensures { IfOk result (λ event. event ≡ note_event place note.number) }
 {
-    Event {
-        place,
-        kind: Kind::Play,
-        note: note.number,
-        line: 0,
-    }
-}
-
-fn fault_event(place: Place, kind: FaultKind, line: u32) -> Event
-    ensures { result ≡ fault_event place kind line }
-{
-    Event {
-        place,
-        kind: Kind::Fault(kind),
-        note: 0,
-        line,
-    }
+    let synth = Name::of(alloc, b"beep")?;
+    let note = Value::Whole(note.number);
+    Ok(Event::of_play(place, synth, note, Options::new(alloc), None))
 }
 
 /// The score of events after which no thread lives.
@@ -127,7 +112,8 @@ fn play_lines(alloc: Global, lines: &[Line]) -> Result<Score, NoMemory>
             Line::Nothing => {}
             Line::Refused => {}
             Line::Play(note) => {
-                events.push(note_event(place(alloc, time, step), note))?;
+                let event = note_event(alloc, place(alloc, time, step), note)?;
+                events.push(event)?;
                 step += 1;
             }
             Line::Sleep(amount) => match next_time_of(time, amount) {
@@ -137,11 +123,9 @@ fn play_lines(alloc: Global, lines: &[Line]) -> Result<Score, NoMemory>
                 }
                 NextTime::AtOrPast(later) => return asleep(alloc, events, later),
                 NextTime::Unfit => {
-                    let fault = fault_event(
-                        place(alloc, time, step),
-                        FaultKind::Overflow,
-                        index as u32 + 1,
-                    );
+                    let here = place(alloc, time, step);
+                    let line = index as u32 + 1;
+                    let fault = Event::of_fault(alloc, here, FaultKind::Overflow, line)?;
                     return faulted(alloc, events, fault);
                 }
             },
@@ -153,7 +137,8 @@ fn play_lines(alloc: Global, lines: &[Line]) -> Result<Score, NoMemory>
 fn refused(alloc: Global, line: u32) -> Result<Score, NoMemory>
     ensures { IfOk result (λ score. score ≡ refused_score line) }
 {
-    let fault = fault_event(place(alloc, zero(), 0), FaultKind::Syntax, line);
+    let here = place(alloc, zero(), 0);
+    let fault = Event::of_fault(alloc, here, FaultKind::Syntax, line)?;
     faulted(alloc, Events::new(alloc), fault)
 }
 

@@ -231,56 +231,74 @@ fn the_first_line_that_is_none_refuses_the_text(rt: HostRuntime) -> Result<(), F
     )
 }
 
-#[test]
-fn lines_that_are_none(rt: HostRuntime) -> Result<(), Fail> {
-    let lines: [&[u8]; 38] = [
-        b"play",
-        b"play 60 61",
-        b"play60",
-        b"play 60.0",
-        b"play -1",
-        b"play +1",
-        b"play x",
-        b"play 6x",
-        b"play 60,",
-        b"play 60 # a note",
-        b"play 9223372036854775808",
-        b"play 00000000000000000060",
-        b"play 12345678901234567890",
-        b"play :e4",
-        b"Play 60",
-        b"plays 60",
-        b"pla 60",
-        b"60",
-        b"60 play",
-        b"sleep",
-        b"sleep 1 2",
-        b"sleep0.5",
-        b"sleep -1",
-        b"sleep .5",
-        b"sleep 1.",
-        b"sleep .",
-        b"sleep 1.5.5",
-        b"sleep 1 .5",
-        b"sleep 1/2",
-        b"sleep 1e1",
-        b"sleep 59.999999999999999999",
-        b"sleep 0.0000000000000000001",
-        b"sleep 0000000000000000001.5",
-        b"sleep 9223372036854775808",
-        b"SLEEP 1",
-        b"# a note",
-        b"play\x0b60",
-        b"play\xc2\xa060",
-    ];
+/// Each line refuses a text, alone and after others.
+fn check_refused<X: AllocGlobal + Abort>(rt: &X, lines: &[&[u8]]) -> Result<(), Fail> {
     for line in lines {
-        check_piece(&rt, line, REFUSED_ON_LINE_1, 8)?;
+        check_piece(rt, line, REFUSED_ON_LINE_1, 8)?;
         let mut later = b"play 60\n\nsleep 1\n".to_vec(rt.alloc())?;
         later.extend_from_slice(line)?;
         later.extend_from_slice(b"\r\nplay 62\n")?;
-        check_piece(&rt, &later, REFUSED_ON_LINE_4, 8)?;
+        check_piece(rt, &later, REFUSED_ON_LINE_4, 8)?;
     }
     Ok(())
+}
+
+#[test]
+fn lines_that_are_no_notes(rt: HostRuntime) -> Result<(), Fail> {
+    check_refused(
+        &rt,
+        &[
+            b"play",
+            b"play 60 61",
+            b"play60",
+            b"play 60.0",
+            b"play -1",
+            b"play +1",
+            b"play x",
+            b"play 6x",
+            b"play 60,",
+            b"play 60 # a note",
+            b"play 9223372036854775808",
+            b"play 00000000000000000060",
+            b"play 12345678901234567890",
+            b"play :e4",
+            b"Play 60",
+            b"plays 60",
+            b"pla 60",
+            b"play\x0b60",
+            b"play\xc2\xa060",
+        ],
+    )
+}
+
+#[test]
+fn lines_that_are_no_rests(rt: HostRuntime) -> Result<(), Fail> {
+    check_refused(
+        &rt,
+        &[
+            b"sleep",
+            b"sleep 1 2",
+            b"sleep0.5",
+            b"sleep -1",
+            b"sleep .5",
+            b"sleep 1.",
+            b"sleep .",
+            b"sleep 1.5.5",
+            b"sleep 1 .5",
+            b"sleep 1/2",
+            b"sleep 1e1",
+            b"sleep 59.999999999999999999",
+            b"sleep 0.0000000000000000001",
+            b"sleep 0000000000000000001.5",
+            b"sleep 9223372036854775808",
+            b"SLEEP 1",
+        ],
+    )
+}
+
+#[test]
+fn lines_of_other_words(rt: HostRuntime) -> Result<(), Fail> {
+    check_refused(&rt, &[b"60", b"60 play", b"# a note"])
 }
 
 #[test]
@@ -296,7 +314,7 @@ fn steps_count_notes_and_rests_and_no_empty_lines(rt: HostRuntime) -> Result<(),
         let score = score_of(rt.alloc(), input.as_bytes())?;
         let mut found = Vec::new(rt.alloc());
         for event in score.events.as_slice() {
-            found.push(event.place.step)?;
+            found.push(event.place().step)?;
         }
         assert_eq!(rt; found.as_slice(), steps, "{input:?}");
     }
@@ -338,7 +356,7 @@ fn all_words_but_a_command_alone_are_usage(rt: HostRuntime) -> Result<(), Fail> 
 }
 
 #[test]
-fn check_tells_whether_a_text_can_be_read(rt: HostRuntime) -> Result<(), Fail> {
+fn check_tells_whether_a_text_is_read_and_allowed(rt: HostRuntime) -> Result<(), Fail> {
     let check = words(&rt, &["check"])?;
     for (input, text, code) in [
         ("", "text 1 ok\n", 0),
@@ -355,6 +373,8 @@ fn check_tells_whether_a_text_can_be_read(rt: HostRuntime) -> Result<(), Fail> {
         ("puts 1,", "text 1 syntax 1\n", 8),
         ("play 60\nend\n", "text 1 syntax 2\n", 8),
         ("if x\n  play 60\n", "text 1 syntax 2\n", 8),
+        ("define :play do\nend\n", "text 1 check taken 1\n", 8),
+        ("play 60\nplay 1, amp: loop()", "text 1 check block 2\n", 8),
     ] {
         let mut src = QuietSource::of(rt.alloc(), input.as_bytes())?;
         let mut out = ScriptSink::of(rt.alloc(), 16, &[], 200)?;
@@ -527,62 +547,72 @@ fn check_room<X: AllocGlobal + Abort>(rt: &X, case: Case, piece: usize) -> Resul
     Ok(())
 }
 
-#[test]
-fn ends_that_fail_at_each_place(rt: HostRuntime) -> Result<(), Fail> {
-    let mut long = repeated(&rt, b" ", 2648)?;
-    long.extend_from_slice(b"sleep 8.999999999999999999\n")?;
-    long.extend_from_slice(&repeated(&rt, b"play 9223372036854775807\n", 57)?)?;
-    let line = b"8999999999999999999/1000000000000000000 1 play :beep 9223372036854775807\n";
-    let mut score = repeated(&rt, line, 57)?;
-    score.extend_from_slice(b"end 57\n")?;
-    let cases = [
-        Case {
-            input: b"",
-            text: b"end 0\n",
-            code: 0,
-            reads: [1, 1, 1],
-            writes: [6, 1, 1],
-        },
-        Case {
-            input: b"play 60",
-            text: b"0 1 play :beep 60\nend 1\n",
-            code: 0,
-            reads: [8, 2, 2],
-            writes: [24, 2, 1],
-        },
-        Case {
-            input: b"play 60\nsleep 0.5\nplay 62\nsleep 60\n",
-            text: b"0 1 play :beep 60\n1/2 1 play :beep 62\nasleep 1 121/2\nend 2\n",
-            code: 0,
-            reads: [36, 6, 2],
-            writes: [59, 4, 1],
-        },
-        Case {
-            input: b"play 60\ncue :a\n",
-            text: b"0 1 fault syntax 2\nend 1\n",
-            code: 8,
-            reads: [16, 4, 2],
-            writes: [25, 2, 1],
-        },
-        // 4,100 bytes in, and 4,168 out.
-        Case {
-            input: &long,
-            text: &score,
-            code: 0,
-            reads: [4101, 587, 3],
-            writes: [4168, 261, 2],
-        },
-    ];
-    for case in cases {
-        for (piece, calls) in [1, 7, 4096].into_iter().zip(case.reads) {
-            check_reads(&rt, case, piece, calls)?;
-        }
-        for (piece, calls) in [1, 16, 4096].into_iter().zip(case.writes) {
-            check_writes(&rt, case, piece, calls)?;
-            check_room(&rt, case, piece)?;
-        }
+fn check_ends<X: AllocGlobal + Abort>(rt: &X, case: Case) -> Result<(), Fail> {
+    for (piece, calls) in [1, 7, 4096].into_iter().zip(case.reads) {
+        check_reads(rt, case, piece, calls)?;
+    }
+    for (piece, calls) in [1, 16, 4096].into_iter().zip(case.writes) {
+        check_writes(rt, case, piece, calls)?;
+        check_room(rt, case, piece)?;
     }
     Ok(())
+}
+
+#[test]
+fn ends_that_fail_at_each_place(rt: HostRuntime) -> Result<(), Fail> {
+    for (input, text, code, reads, writes) in [
+        ("", "end 0\n", 0, [1, 1, 1], [6, 1, 1]),
+        (
+            "play 60",
+            "0 1 play :beep 60\nend 1\n",
+            0,
+            [8, 2, 2],
+            [24, 2, 1],
+        ),
+        (
+            "play 60\nsleep 0.5\nplay 62\nsleep 60\n",
+            "0 1 play :beep 60\n1/2 1 play :beep 62\nasleep 1 121/2\nend 2\n",
+            0,
+            [36, 6, 2],
+            [59, 4, 1],
+        ),
+        (
+            "play 60\ncue :a\n",
+            "0 1 fault syntax 2\nend 1\n",
+            8,
+            [16, 4, 2],
+            [25, 2, 1],
+        ),
+    ] {
+        let case = Case {
+            input: input.as_bytes(),
+            text: text.as_bytes(),
+            code,
+            reads,
+            writes,
+        };
+        check_ends(&rt, case)?;
+    }
+    Ok(())
+}
+
+/// 4,100 bytes in, and 4,168 out.
+#[test]
+fn ends_that_fail_in_a_long_piece(rt: HostRuntime) -> Result<(), Fail> {
+    let mut input = repeated(&rt, b" ", 2648)?;
+    input.extend_from_slice(b"sleep 8.999999999999999999\n")?;
+    input.extend_from_slice(&repeated(&rt, b"play 9223372036854775807\n", 57)?)?;
+    let line = b"8999999999999999999/1000000000000000000 1 play :beep 9223372036854775807\n";
+    let mut text = repeated(&rt, line, 57)?;
+    text.extend_from_slice(b"end 57\n")?;
+    let case = Case {
+        input: &input,
+        text: &text,
+        code: 0,
+        reads: [4101, 587, 3],
+        writes: [4168, 261, 2],
+    };
+    check_ends(&rt, case)
 }
 
 #[test]

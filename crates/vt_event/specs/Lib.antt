@@ -1,0 +1,9 @@
+pub mod Event
+pub mod EventsByKind
+pub mod Kinds
+pub mod Laws
+pub mod Order
+pub mod Orderly
+pub mod OrderLaws
+pub mod Pairs
+pub mod Score

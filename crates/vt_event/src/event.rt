@@ -1,79 +1,161 @@
-ghost use Rattle.std.specs.Prelude.{◌≡◌, [], ◌∷◌, ◌++◌, OnOk, OnErr};
+//! Events: what happened, and where.
 
-use crate::Place;
+ghost use Rattle.std.specs.Prelude.{◌≡◌, IfOk, IsTrue, is_some};
+ghost use Rattle.std.specs.Option.{option_copied};
+ghost use Rattle.vt_event.specs.Event.{IsEvent};
+ghost use Rattle.vt_event.specs.Kinds.{has_body, has_path};
+
+use crate::{BlockRef, FxId, Kind, Locals, Options, Place};
 use std::alloc::Global;
 use std::marker::Model;
-use vt_frac::NoMemory;
+use vt_frac::{Name, NoMemory};
+use vt_path::Path;
+use vt_value::Value;
 
-/// Why a thread ended before its time.
-#[derive(Clone, Copy, Debug, PartialEq, Eq)]
-pub enum FaultKind {
-    /// A number outside the fractions.
-    Overflow,
-    /// A text that cannot be read.
-    Syntax,
-}
+mod make;
 
-/// What happened.
-#[derive(Clone, Copy, Debug, PartialEq, Eq)]
-pub enum Kind {
-    /// A note was played.
-    Play,
-    /// A thread or a text ended by a fault.
-    Fault(FaultKind),
-}
-
-/// A note that is played, or a fault.
-#[derive(Drop)]
+/// Something that happened at a place. Contracts see it as the record of its fields.
+///
+/// Its kind says which fields it has; every other field is empty. The type keeps that, so events are made by `of_play` and
+/// the other calls of that form, one for each kind, and read by the calls below.
+#[derive(Debug, Drop)]
 pub struct Event {
+    place: Place,
+    kind: Kind,
+    path: Option<Path>,
+    name: Name,
+    value: Value,
+    options: Options,
+    fx: Option<FxId>,
+    body: Option<(BlockRef, Locals)>,
+    line: u32,
+}
+
+impl Model for Event {
+    ghost use Rattle.std.specs.Coded.{codes};
+    ghost use Rattle.vt_value.specs.contracts.value.Value as any_value;
+    ghost use Rattle.vt_event.specs.Event.{EventView, IsEvent};
+
+    ghost Value = { EventView };
+
+    ghost coded = { Prim.hlevel (codes, any_value.the_row.coded) };
+
+    ghost view = { λ e. record { place = e.place; kind = e.kind; path = e.path; name = e.name; value = e.value; options = e.options; fx = e.fx; body = e.body; line = e.line } };
+
+    ghost invariant = { λ e. IsEvent (record { place = e.place; kind = e.kind; path = e.path; name = e.name; value = e.value; options = e.options; fx = e.fx; body = e.body; line = e.line }) };
+}
+
+impl Event {
     /// Where it stands.
-    pub place: Place,
+    pub fn place(&self) -> &Place
+        ensures { result.now ≡ self.now.place }
+    {
+        &self.place
+    }
+
     /// What it is.
-    pub kind: Kind,
-    /// The number of the note; 0 in a fault that `render` makes.
-    pub note: i64,
-    /// The line of the fault in the input, from 1; 0 in a note that `render` makes.
-    pub line: u32,
-}
-
-/// A list of events.
-#[derive(Drop)]
-pub struct Events {
-    items: Vec<Event>,
-}
-
-impl Model for Events {
-    ghost use Rattle.std.specs.Prelude.{List};
-    ghost use Rattle.vt_event.specs.declared.event.Event.{Event};
-
-    ghost Value = { List Event };
-
-    ghost view = { λ events. events.items.items };
-}
-
-impl Events {
-    /// No events.
-    pub fn new(alloc: Global) -> Events
-        ensures { result ≡ [] }
+    pub fn kind(&self) -> Kind
+        ensures value { result ≡ self.now.kind }
+        ensures event { IsEvent self.now }
     {
-        Events {
-            items: Vec::new(alloc),
-        }
+        self.kind
     }
 
-    /// Adds an event at the end. It fails only for want of memory.
-    pub fn push(&mut self, event: Event) -> Result<(), NoMemory>
-        ensures ok { OnOk result (self.new ≡ self.old ++ event ∷ []) }
-        ensures err { OnErr result (self.new ≡ self.old) }
+    /// The path of a Cue, Set, Took, Body, Defined, Started or Ended.
+    pub fn path(&self) -> Option<&Path>
+        ensures value { option_copied result ≡ self.now.path }
+        ensures some { is_some result ≡ has_path self.now.kind }
     {
-        self.items.push(event)?;
-        Ok(())
+        self.path.as_ref()
     }
 
-    /// The events in order.
-    pub fn as_slice(&self) -> &[Event]
-        ensures { result.now ≡ self.now }
+    /// The synth of a Play or Synth, the name of an Fx; else no bytes.
+    pub fn name(&self) -> &Name
+        ensures { result.now ≡ self.now.name }
     {
-        self.items.as_slice()
+        &self.name
+    }
+
+    /// The note of a Play, the name of a Sample, the number of an Fx, the value of a Cue, Set, Log or Took; else nil.
+    pub fn value(&self) -> &Value
+        ensures { result.now ≡ self.now.value }
+    {
+        &self.value
+    }
+
+    /// The options of a Play, Synth, Sample or Fx; else none.
+    pub fn options(&self) -> &Options
+        ensures { result.now ≡ self.now.options }
+    {
+        &self.options
+    }
+
+    /// The effect in which a Play, Synth, Sample or Fx stands.
+    pub fn fx(&self) -> Option<&FxId>
+        ensures { option_copied result ≡ self.now.fx }
+    {
+        self.fx.as_ref()
+    }
+
+    /// The block and the locals of a Body or Defined.
+    pub fn body(&self) -> Option<&(BlockRef, Locals)>
+        ensures value { option_copied result ≡ self.now.body }
+        ensures some { is_some result ≡ has_body self.now.kind }
+    {
+        self.body.as_ref()
+    }
+
+    /// The line of a Fault in the input, that of the `live_loop` statement of a Body; else 0.
+    pub fn line(&self) -> u32
+        ensures { result ≡ self.now.line }
+    {
+        self.line
+    }
+
+    /// An equal event.
+    pub fn copy(&self, alloc: Global) -> Result<Event, NoMemory>
+        ensures { IfOk result (λ event. event ≡ self.now) }
+    {
+        Ok(Event {
+            place: self.place.copy(alloc)?,
+            kind: self.kind,
+            path: copy_path(alloc, &self.path)?,
+            name: self.name.copy(alloc)?,
+            value: self.value.copy(alloc)?,
+            options: self.options.copy(alloc)?,
+            fx: copy_fx(alloc, &self.fx)?,
+            body: copy_body(alloc, &self.body)?,
+            line: self.line,
+        })
+    }
+}
+
+fn copy_path(alloc: Global, path: &Option<Path>) -> Result<Option<Path>, NoMemory>
+    ensures { IfOk result (λ copied. copied ≡ path.now) }
+{
+    match path {
+        None => Ok(None),
+        Some(path) => Ok(Some(path.copy(alloc)?)),
+    }
+}
+
+fn copy_fx(alloc: Global, fx: &Option<FxId>) -> Result<Option<FxId>, NoMemory>
+    ensures { IfOk result (λ copied. copied ≡ fx.now) }
+{
+    match fx {
+        None => Ok(None),
+        Some(fx) => Ok(Some(fx.copy(alloc)?)),
+    }
+}
+
+fn copy_body(
+    alloc: Global,
+    body: &Option<(BlockRef, Locals)>,
+) -> Result<Option<(BlockRef, Locals)>, NoMemory>
+    ensures { IfOk result (λ copied. copied ≡ body.now) }
+{
+    match body {
+        None => Ok(None),
+        Some((block, locals)) => Ok(Some((*block, locals.copy(alloc)?))),
     }
 }

@@ -1,19 +1,24 @@
+//! What a run comes to.
+
 ghost use Rattle.std.specs.Prelude.{◌≡◌, [], ◌∷◌, ◌++◌, OnOk, OnErr};
 
 use crate::{Events, ThreadId};
 use std::alloc::Global;
 use std::marker::Model;
 use vt_frac::{Frac, NoMemory};
+use vt_path::Pattern;
 
 /// How a thread goes on after the end of a score.
-#[derive(Clone, Copy, Debug, PartialEq, Eq)]
+#[derive(Debug, Drop)]
 pub enum LivingState {
     /// Its next action stands at this time, in seconds.
     Asleep(Frac),
+    /// It waits for an event at a path that this pattern matches.
+    Waiting(Pattern),
 }
 
 /// A thread that goes on living.
-#[derive(Drop)]
+#[derive(Debug, Drop)]
 pub struct Living {
     /// The thread's list.
     pub thread: ThreadId,
@@ -22,7 +27,7 @@ pub struct Living {
 }
 
 /// A list of living threads.
-#[derive(Drop)]
+#[derive(Debug, Drop)]
 pub struct Livings {
     items: Vec<Living>,
 }
@@ -37,7 +42,7 @@ impl Model for Livings {
 }
 
 impl Livings {
-    /// No threads.
+    /// No living threads.
     pub fn new(alloc: Global) -> Livings
         ensures { result ≡ [] }
     {
@@ -46,7 +51,7 @@ impl Livings {
         }
     }
 
-    /// Adds a thread at the end. It fails only for want of memory.
+    /// Adds a living thread at the end. It fails only for want of memory.
     pub fn push(&mut self, living: Living) -> Result<(), NoMemory>
         ensures ok { OnOk result (self.new ≡ self.old ++ living ∷ []) }
         ensures err { OnErr result (self.new ≡ self.old) }
@@ -55,7 +60,7 @@ impl Livings {
         Ok(())
     }
 
-    /// The threads in order.
+    /// The living threads in order.
     pub fn as_slice(&self) -> &[Living]
         ensures { result.now ≡ self.now }
     {
@@ -63,12 +68,21 @@ impl Livings {
     }
 }
 
-/// The events of a run and the threads that go on living. A rendered score has the events in order of place, and the
+/// The events of a run and the threads that go on living. A finished score has the events in order of place, and the
 /// threads in order of their lists.
-#[derive(Drop)]
+#[derive(Debug, Drop)]
 pub struct Score {
     /// What happened.
     pub events: Events,
     /// Who goes on.
     pub living: Livings,
+}
+
+/// What a run comes to.
+#[derive(Debug, Drop)]
+pub enum Outcome {
+    /// It came to its end.
+    Scored(Score),
+    /// Its cost went above the budget.
+    Spent,
 }

@@ -3,20 +3,20 @@ use Rattle.std.proofs.Common.{◌≡◌, inl, inr, Bool, true, false, not, ◌&&
 use Rattle.vt_tree.specs.declared.expression.Expr.{Expr}
 use Rattle.vt_tree.specs.declared.statement.Simple.{Simple}
 use Rattle.vt_tree.specs.declared.statement.Simple.TheVariants as simples
-use Rattle.vt_parse.specs.declared.parts.Arguments.{Arguments}
-use Rattle.vt_parse.specs.declared.words.Word.{Word}
-use Rattle.vt_parse.specs.declared.words.Word.TheVariants as words
-use Rattle.vt_parse.specs.Form.{Form, either, mapped, only}
-use Rattle.vt_parse.specs.Steps.{Read, Stuck}
-use Rattle.vt_parse.specs.Marks.{Mark}
-use Rattle.vt_parse.specs.Grammar.{Opened, word, args, expr, leads, Leads, IsLed, IsPlain, command, cond_form, is_set, rhs, assign}
-use Rattle.vt_parse.specs.Sets.{just, ArgStarts, ExprGoes, RhsGoes}
+use Rattle.vt_grammar.specs.declared.parts.Arguments.{Arguments}
+use Rattle.vt_grammar.specs.declared.words.Word.{Word}
+use Rattle.vt_grammar.specs.declared.words.Word.TheVariants as words
+use Rattle.vt_grammar.specs.Form.{Form, either, mapped, only}
+use Rattle.vt_grammar.specs.Steps.{Read, Stuck}
+use Rattle.vt_grammar.specs.Marks.{Mark}
+use Rattle.vt_grammar.specs.Grammar.{Opened, word, args, expr, leads, Leads, IsLed, IsPlain, command, cond_form, is_set, rhs, assign}
+use Rattle.vt_grammar.specs.Sets.{just, ArgStarts, ExprGoes, RhsGoes}
 use Rattle.vt_parse.specs.Parses.{is_command, is_assign}
-use Rattle.vt_parse.proofs.Choices.{left_read_by, left_stuck_by, only_read, only_stuck, right_read_by, right_stuck_by}
-use Rattle.vt_parse.proofs.WordSets.{In, disjoint, apart, by_room, just_is, just_self}
-use Rattle.vt_parse.proofs.Laws.{map_piece}
-use Rattle.vt_parse.proofs.Pieces.{Brackets, args_piece, expr_piece, command_piece, command_begun, command_one, command_expr, name_expr, rhs_piece, rhs_second, name_rhs, assign_piece, assign_begun, assign_one, assign_rhs}
-use Rattle.vt_parse.proofs.Exact.{Exacts, args_exact}
+use Rattle.vt_grammar.proofs.Choices.{left_read_by, left_stuck_by, only_read, only_stuck, right_read_by, right_stuck_by}
+use Rattle.vt_grammar.proofs.WordSets.{In, disjoint, apart, by_room, just_is, just_self}
+use Rattle.vt_grammar.proofs.Laws.{map_piece}
+use Rattle.vt_grammar.proofs.Pieces.{Brackets, args_piece, expr_piece, command_piece, command_begun, command_one, command_expr, name_expr, rhs_piece, rhs_second, name_rhs, assign_piece, assign_begun, assign_one, assign_rhs}
+use Rattle.vt_grammar.proofs.Exact.{Exacts, args_exact}
 use Rattle.vt_parse.proofs.Rules.{map_read, map_stuck}
 
 -- two tokens that begin the form are in front of where it is stuck

@@ -2,16 +2,17 @@
 use Rattle.std.proofs.Common.{◌≡◌, inl, inr, ℕ, List, [], ◌∷◌, ◌++◌, Some, None, refl, sym, ap, ◌∙◌, subst, append-nil}
 use Rattle.vt_lex.specs.declared.token.Token.{Token}
 use Rattle.vt_tree.specs.declared.statement.Stmt.{Stmt}
-use Rattle.vt_parse.specs.Steps.{Read, Stuck}
+use Rattle.vt_grammar.specs.Steps.{Read, Stuck}
 use Rattle.vt_parse.specs.Answers.{end_line}
-use Rattle.vt_parse.specs.Grammar.{block, opened}
-use Rattle.vt_parse.specs.Marks.{Mark, Spelled, marked, mark_of, number_with}
-use Rattle.vt_parse.specs.Parses.{Fails, peeked_line, spelled, spelled_in}
-use Rattle.vt_parse.specs.Text.{text, Reads, Begins, SyntaxRefuses}
-use Rattle.vt_parse.specs.Trees.{block_tree}
+use Rattle.vt_grammar.specs.Grammar.{block, opened}
+use Rattle.vt_grammar.specs.Marks.{Mark, Spelled, marked, mark_of, number_with}
+use Rattle.vt_parse.specs.Parses.{Fails, peeked_line}
+use Rattle.vt_grammar.specs.Tokens.{spelled, spelled_in}
+use Rattle.vt_grammar.specs.Text.{text, Reads, Begins, SyntaxRefuses}
+use Rattle.vt_grammar.specs.Trees.{block_tree}
 use Rattle.vt_parse.specs.declared.fault.Fault.{Fault}
 use Rattle.vt_parse.specs.declared.fault.Fault.TheVariants.{Here}
-use Rattle.vt_parse.proofs.TextLaws.{text_lawful}
+use Rattle.vt_grammar.proofs.TextLaws.{text_lawful}
 
 -- where the marks are cut before one of them, so are the tokens
 record CutAt (n : ℕ) (ss : List Spelled) (f : List Mark) (t : Mark) : Type 0 where

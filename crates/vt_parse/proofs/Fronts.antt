@@ -2,9 +2,10 @@
 use Rattle.std.proofs.Common.{◌≡◌, ◌≤◌, ◌<◌, ℕ, suc, cond, List, [], ◌∷◌, length, slice_index_or, slice_range, Some, None, ◌-◌, refl, sym, ap, arith}
 use Rattle.std.proofs.lemmas.List.{take_all}
 use Rattle.vt_lex.specs.declared.token.Token.{Token}
-use Rattle.vt_parse.specs.Marks.{Mark, marked, mark_of, number_with, word_of, word_at, begins_block}
-use Rattle.vt_parse.specs.Parses.{AreTokens, peeked, peeked_line, peeked_second, spelled, spelled_in}
-use Rattle.vt_parse.specs.Values.{HasValue}
+use Rattle.vt_grammar.specs.Marks.{Mark, marked, mark_of, number_with, word_of, word_at, begins_block}
+use Rattle.vt_grammar.specs.Tokens.{AreTokens, spelled, spelled_in}
+use Rattle.vt_parse.specs.Parses.{peeked, peeked_line, peeked_second}
+use Rattle.vt_grammar.specs.Values.{HasValue}
 
 pub front_line : (n : ℕ) (text : List ℕ) (ts : List Token) (d : Token) → 1 ≤ length ts → Some (slice_index_or ts 0 d).line ≡ peeked_line (marked n (spelled text ts))
 unfolding mark_of spelled_in

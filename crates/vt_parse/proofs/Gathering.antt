@@ -2,20 +2,21 @@
 use Rattle.std.proofs.Common.{◌≡◌, ℕ, Bool, true, false, List, [], ◌∷◌, ◌++◌, Option, Some, None, refl, sym, ap, ap₂, ◌∙◌, subst, append_assoc, append-nil}
 use Rattle.vt_tree.specs.declared.expression.Expr.{Expr}
 use Rattle.vt_tree.specs.declared.statement.Stmt.{Stmt}
-use Rattle.vt_parse.specs.declared.parts.Arguments.{Arguments}
-use Rattle.vt_parse.specs.declared.parts.Part.{Part}
-use Rattle.vt_parse.specs.declared.words.Word.{Word}
-use Rattle.vt_parse.specs.Form.{Form, mapped, many, many_from}
-use Rattle.vt_parse.specs.Steps.{Read, Stuck}
-use Rattle.vt_parse.specs.Marks.{Mark}
-use Rattle.vt_parse.specs.Sets.{peeked_in}
-use Rattle.vt_parse.specs.Trees.{Argument, gathered, positional, labelled, present, with_part, with_parts}
-use Rattle.vt_parse.specs.Grammar.{names_of}
-use Rattle.vt_parse.proofs.ManyFrom.{from_cons, from_stuck, from_stuck_first, from_end}
+use Rattle.vt_grammar.specs.declared.parts.Arguments.{Arguments}
+use Rattle.vt_grammar.specs.declared.parts.Part.{Part}
+use Rattle.vt_grammar.specs.declared.words.Word.{Word}
+use Rattle.vt_grammar.specs.Form.{Form, mapped, many, many_from}
+use Rattle.vt_grammar.specs.Steps.{Read, Stuck}
+use Rattle.vt_grammar.specs.Marks.{Mark}
+use Rattle.vt_parse.specs.Parses.{peeked_in}
+use Rattle.vt_grammar.specs.Trees.{Argument, gathered, positional, labelled, present, with_part, with_parts}
+use Rattle.vt_grammar.specs.Grammar.{names_of}
+use Rattle.vt_grammar.proofs.ManyFrom.{from_cons, from_stuck, from_stuck_first, from_end}
 use Rattle.vt_parse.proofs.Loops.{Continues, continues_start}
-use Rattle.vt_parse.proofs.WordSets.{In, disjoint, apart}
-use Rattle.vt_parse.proofs.Laws.{Piece}
-use Rattle.vt_parse.proofs.Rules.{Exact, loop_one, loop_ok, loop_err, map_read, map_stuck}
+use Rattle.vt_grammar.proofs.WordSets.{In, disjoint, apart}
+use Rattle.vt_grammar.proofs.Laws.{Piece}
+use Rattle.vt_grammar.proofs.Exact.{Exact}
+use Rattle.vt_parse.proofs.Rules.{loop_one, loop_ok, loop_err, map_read, map_stuck}
 
 -- what f makes of the values that were read from the start up to here
 pub record Gathers {V W : Type 0} (f : List V → W) (a : Form Mark V) (start here : List Mark) (w : W) : Type 0 where

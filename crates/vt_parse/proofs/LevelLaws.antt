@@ -5,21 +5,21 @@ use Rattle.vt_tree.specs.declared.expression.ChainKind.TheVariants as chains
 use Rattle.vt_tree.specs.declared.expression.Expr.{Expr}
 use Rattle.std.proofs.Common.{Option, Result}
 use Rattle.vt_parse.specs.declared.fault.Fault.{Fault}
-use Rattle.vt_parse.specs.Parses.{Parses}
+use Rattle.vt_parse.specs.Parses.{Parses, peeked_in}
 use Rattle.vt_tree.specs.declared.statement.Block.{Block}
-use Rattle.vt_parse.specs.Trees.{Argument}
+use Rattle.vt_grammar.specs.Trees.{Argument}
 use Rattle.vt_parse.specs.declared.classes.Class.{Class}
-use Rattle.vt_parse.specs.declared.words.Word.{Word}
-use Rattle.vt_parse.specs.Form.{many, optional}
-use Rattle.vt_parse.specs.Steps.{Read, Stuck}
-use Rattle.vt_parse.specs.Marks.{Mark}
+use Rattle.vt_grammar.specs.declared.words.Word.{Word}
+use Rattle.vt_grammar.specs.Form.{many, optional}
+use Rattle.vt_grammar.specs.Steps.{Read, Stuck}
+use Rattle.vt_grammar.specs.Marks.{Mark}
 use Rattle.vt_parse.specs.Classes.{class_words}
 use Rattle.vt_parse.specs.Levels.{below, ops_of}
-use Rattle.vt_parse.specs.Grammar.{Opened, among, arg, labelled_arg, block_where, link}
-use Rattle.vt_parse.specs.Sets.{peeked_in, UnaryStarts, ExprStarts, PostfixGoes, TermGoes, SumGoes, CompGoes, ConjGoes, DisjGoes, ExprGoes}
-use Rattle.vt_parse.proofs.WordSets.{disjoint}
-use Rattle.vt_parse.proofs.Laws.{Piece, Maybe, repeat}
-use Rattle.vt_parse.proofs.Pieces.{Brackets, link_piece, unary_piece, term_piece, sum_piece, comp_piece, conj_piece, negation_piece}
+use Rattle.vt_grammar.specs.Grammar.{Opened, among, arg, labelled_arg, block_where, link}
+use Rattle.vt_grammar.specs.Sets.{UnaryStarts, ExprStarts, PostfixGoes, TermGoes, SumGoes, CompGoes, ConjGoes, DisjGoes, ExprGoes}
+use Rattle.vt_grammar.proofs.WordSets.{disjoint}
+use Rattle.vt_grammar.proofs.Laws.{Piece, Maybe, repeat}
+use Rattle.vt_grammar.proofs.Pieces.{Brackets, link_piece, unary_piece, term_piece, sum_piece, comp_piece, conj_piece, negation_piece}
 
 abbrev pub BelowStarts : ChainKind → Bool → Word → Bool
 BelowStarts chains.Expr b = ExprStarts b

@@ -1,7 +1,6 @@
 -- The tokens of a lexed text have what the parser asks of them.
-use Rattle.std.proofs.Common.{◌≡◌, ℕ, zero, suc, ◌+◌, ◌≤◌, ◌<◌, ◌^◌, ◌&&◌, Bool, true, false, true≢false, cond, List, [], ◌∷◌, IsTrue, refl, sym, ap, ◌∙◌, subst, length, slice_range, bytes_eq, is_ok, arith}
+use Rattle.std.proofs.Common.{◌≡◌, ℕ, suc, ◌+◌, ◌≤◌, ◌<◌, ◌&&◌, Bool, true, false, true≢false, cond, List, [], ◌∷◌, refl, sym, ap, ◌∙◌, length, slice_range, bytes_eq, is_ok, arith}
 use Rattle.std.specs.List.{All, list_all}
-use Rattle.vt_frac.specs.Decimal.{decimal_of, pointed_decimal}
 use Rattle.vt_frac.proofs.DecimalForms as decimals
 use Rattle.vt_lex.specs.declared.token.Token.{Token}
 use Rattle.vt_lex.specs.declared.token.TokenKind.{TokenKind}
@@ -12,11 +11,11 @@ use Rattle.vt_lex.specs.Numbers.{decimal_fits}
 use Rattle.vt_lex.specs.Places.{AreInOrder}
 use Rattle.vt_lex.proofs.Placing.{tokens_in_order}
 use Rattle.vt_lex.proofs.Shapes.{tokens_have_forms}
-use Rattle.vt_parse.specs.declared.words.Word.{Word}
-use Rattle.vt_parse.specs.declared.words.Word.TheVariants as words
-use Rattle.vt_parse.specs.Marks.{Spelling, keywords, operators, spaced, word_at, word_in, word_of}
-use Rattle.vt_parse.specs.Parses.{AreTokens, IsToken, spelled_in}
-use Rattle.vt_parse.specs.Values.{HasValue}
+use Rattle.vt_grammar.specs.declared.words.Word.{Word}
+use Rattle.vt_grammar.specs.declared.words.Word.TheVariants as words
+use Rattle.vt_grammar.specs.Marks.{Spelling, keywords, operators, spaced, word_at, word_in, word_of}
+use Rattle.vt_grammar.specs.Tokens.{AreTokens, IsToken, spelled_in}
+use Rattle.vt_grammar.specs.Values.{HasValue}
 
 -- a word that has no value
 abbrev is_plain : Word → Bool

@@ -1,10 +1,10 @@
 -- What a loop over many of a form keeps.
 use Rattle.std.proofs.Common.{◌≡◌, List, [], ◌∷◌, ◌++◌, sym, ◌∙◌, subst, append_assoc, append-nil}
-use Rattle.vt_parse.specs.Form.{Form, many}
-use Rattle.vt_parse.specs.Steps.{Read, Stuck}
-use Rattle.vt_parse.proofs.Sequences.{Lawful}
-use Rattle.vt_parse.proofs.Many.{many_cons, many_stuck, many_end, many_stuck_first}
-use Rattle.vt_parse.proofs.Choices.{Bars}
+use Rattle.vt_grammar.specs.Form.{Form, many}
+use Rattle.vt_grammar.specs.Steps.{Read, Stuck}
+use Rattle.vt_grammar.proofs.Sequences.{Lawful}
+use Rattle.vt_grammar.proofs.Many.{many_cons, many_stuck, many_end, many_stuck_first}
+use Rattle.vt_grammar.proofs.Choices.{Bars}
 use Rattle.std.proofs.lemmas.List.{append_cancel_right}
 
 -- vs were read from start up to here, and whatever is read from here follows them

@@ -1,21 +1,27 @@
 -- The steps of the parser's functions, by the laws of the parts.
-use Rattle.std.proofs.Common.{◌≡◌, ◌<◌, Bool, true, false, length, List, [], ◌∷◌, ◌++◌, Some, None, Result, Ok, Err, refl, sym, ap, ◌∙◌, subst, arith, length-append}
+use Rattle.std.proofs.Common.{◌≡◌, ◌<◌, Bool, true, false, length, List, [], ◌∷◌, ◌++◌, Some, None, Result, Ok, Err, Option, refl, sym, ap, ap₂, ◌∙◌, subst, arith, length-append}
 use Rattle.std.specs.Result.{IsErrAnd}
 use Rattle.std.proofs.lemmas.Result.{err_from_is_err_and}
 use Rattle.vt_parse.specs.declared.fault.Fault.{Fault}
 use Rattle.vt_parse.specs.declared.fault.Fault.TheVariants.{Here, NoMemory}
-use Rattle.vt_parse.specs.declared.words.Word.{Word}
-use Rattle.vt_parse.specs.Form.{Form, next, either, mapped, optional, with_its, many}
-use Rattle.vt_parse.specs.Steps.{Read, Stuck}
-use Rattle.vt_parse.specs.Marks.{Mark}
-use Rattle.vt_parse.specs.Grammar.{word, among, first_line}
-use Rattle.vt_parse.specs.Parses.{Fails, Parses, ParsesAs, Makes}
-use Rattle.vt_parse.specs.Sets.{just, peeked_in}
-use Rattle.vt_parse.proofs.Sequences.{next_read, next_stuck, next_stuck_first, stuck_here}
-use Rattle.vt_parse.proofs.Choices.{Bars, one_read, one_stuck, empty_lawful, empty_read, mapped_read, mapped_stuck, left_read, right_read, left_stuck, right_stuck}
-use Rattle.vt_parse.proofs.Builders.{Solid, map_lawful}
-use Rattle.vt_parse.proofs.WordSets.{In, Is, includes, disjoint, sub, apart, included, just_is, just_self, is_in}
-use Rattle.vt_parse.proofs.Laws.{Piece, Maybe}
+use Rattle.vt_grammar.specs.declared.words.Word.{Word}
+use Rattle.vt_tree.specs.declared.expression.Expr.{Expr}
+use Rattle.vt_tree.specs.declared.statement.Arm.{Arm}
+use Rattle.vt_tree.specs.declared.statement.Simple.TheVariants as simples
+use Rattle.vt_tree.specs.declared.statement.Stmt.{Stmt}
+use Rattle.vt_grammar.specs.Trees.{arm_tree}
+use Rattle.vt_grammar.specs.Form.{Form, next, either, mapped, optional, with_its, many}
+use Rattle.vt_grammar.specs.Steps.{Read, Stuck}
+use Rattle.vt_grammar.specs.Marks.{Mark}
+use Rattle.vt_grammar.specs.Grammar.{word, among, first_line}
+use Rattle.vt_parse.specs.Parses.{Fails, Parses, ParsesAs, Makes, Maps, peeked_in}
+use Rattle.vt_grammar.specs.Sets.{just}
+use Rattle.vt_grammar.proofs.Sequences.{next_read, next_stuck, next_stuck_first, stuck_here}
+use Rattle.vt_grammar.proofs.Choices.{Bars, one_read, one_stuck, empty_lawful, empty_read, mapped_read, mapped_stuck, left_read, right_read, left_stuck, right_stuck}
+use Rattle.vt_grammar.proofs.Builders.{Solid, map_lawful}
+use Rattle.vt_grammar.proofs.WordSets.{In, Is, includes, disjoint, sub, apart, included, just_is, just_self, is_in}
+use Rattle.vt_grammar.proofs.Laws.{Piece, Maybe}
+use Rattle.vt_grammar.proofs.Exact.{Exact}
 use Rattle.vt_parse.proofs.Loops.{Continues, continues_one, loop_end, loop_stuck, moved}
 
 -- What stands at the front
@@ -79,6 +85,30 @@ made a o n v (Ok w) h m = subst (λ z. Read a o n z) (sym m) h
 made a o n v (Err Here) h m = absurd (cc)
 made a o n v (Err NoMemory) h m = tt
 
+-- what a value that was read is made into, or the fault where none was
+pub maps_tail : {V U : Type 0} (a : Form Mark V) (b : Form Mark U) (f : V → U) (o m n : List Mark) (s : Result V Fault) (r : Result U Fault)
+    → ((v : V) → Read a m n v → Read b o n (f v)) → (Stuck a m n → Stuck b o n) → Maps f s r → Parses a m n s → Parses b o n r
+maps_tail a b f o m n (Ok v) r ok err e h = subst (λ z. Parses b o n z) (sym e) (ok v h)
+maps_tail a b f o m n (Err Here) r ok err e h = subst (λ z. Parses b o n z) (sym e) (err h)
+maps_tail a b f o m n (Err NoMemory) r ok err e h = subst (λ z. Parses b o n z) (sym e) tt
+
+pub maps_ok : {V U : Type 0} (a : Form Mark V) (o n : List Mark) (f : V → U) (s : Result V Fault) (w : U) → Parses a o n s → Maps f s (Ok w)
+    → (v : V) × Read a o n v × (w ≡ f v)
+maps_ok a o n f (Ok v) w h e = (v, h, cc)
+maps_ok a o n f (Err d) w h e = absurd (cc)
+
+pub maps_err : {V U : Type 0} (a : Form Mark V) (o n : List Mark) (f : V → U) (s : Result V Fault) (e : Fault) → Parses a o n s → Maps f s (Err e)
+    → Fails a o n e
+maps_err a o n f (Ok v) e h p = absurd (cc)
+maps_err a o n f (Err d) e h p = let same : d ≡ e = cc in subst (λ z. Fails a o n z) same h
+
+-- the branches after the first, as the branches of the whole
+pub branches_value : {found : List Arm} {first : Arm} {u v : Bool} {cond other : Expr} (stmts : List Stmt) (more : List Arm) (last : Option (List Stmt))
+    → found ≡ first ∷ [] → first ≡ arm_tree u cond stmts → u ≡ v → cond ≡ other
+    → simples.Iff (found ++ more) last ≡ simples.Iff (arm_tree v other stmts ∷ more) last
+branches_value stmts more last e f g h =
+    ap (λ z. simples.Iff (z ++ more) last) (e ∙ ap (λ z. z ∷ []) (f ∙ ap₂ (λ x y. arm_tree x y stmts) g h))
+
 -- a form that isn't empty takes a token
 pub shorter : {V : Type 0} {a : Form Mark V} {o n : List Mark} {v : V} → Solid a → Read a o n v → length n < length o
 shorter {a = a} {o = o} {n = n} {v = v} s h = go h.front h.whole h.is_read
@@ -136,10 +166,6 @@ module _ {V : Type 0} {a b : Form Mark V} {FA MA FB MB : Word → Bool} (C : Wor
 -- none of the form stands here
 pub stuck_out : {V : Type 0} {a : Form Mark V} {F M : Word → Bool} (C : Word → Bool) {o : List Mark} → Piece a F M → includes F C ≡ true → peeked_in C o ≡ false → Stuck a o o
 stuck_out {a = a} {F = F} C {o = o} p i e = stuck_here a (In F) p.law.opens p.solid.solid o (λ t rest q h. (bars_out C {F = F} i e).bars t rest q h)
-
--- A token with which the form begins begins it.
-pub record Exact {V : Type 0} (a : Form Mark V) (F : Word → Bool) : Type 0 where
-  pub exact : (t : Mark) → F t.word ≡ true → a.begins (t ∷ [])
 
 -- a form whose first token was there is stuck past it
 pub moved_on : {V : Type 0} {a : Form Mark V} {F : Word → Bool} {o n : List Mark} → Exact a F → peeked_in F o ≡ true → Stuck a o n → o ≡ n → ⊥

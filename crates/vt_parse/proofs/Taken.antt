@@ -2,19 +2,20 @@
 use Rattle.std.proofs.Common.{◌≡◌, ℕ, zero, suc, Bool, true, false, ◌&&◌, nat_lt, List, [], ◌∷◌, Option, None, refl, sym, subst, arith, lt-ltb}
 use Rattle.vt_tree.specs.declared.expression.Expr.{Expr}
 use Rattle.vt_tree.specs.declared.statement.Block.{Block}
-use Rattle.vt_parse.specs.declared.parts.Arguments.{Arguments}
-use Rattle.vt_parse.specs.declared.parts.Part.{Part}
-use Rattle.vt_parse.specs.declared.words.Word.TheVariants as words
-use Rattle.vt_parse.specs.Form.{Form, mapped, many_from}
-use Rattle.vt_parse.specs.Steps.{Read, Stuck}
-use Rattle.vt_parse.specs.Marks.{Mark}
-use Rattle.vt_parse.specs.Sets.{just, peeked_in, PartStarts}
-use Rattle.vt_parse.specs.Trees.{gathered, left_after, with_part, with_parts, Left}
-use Rattle.vt_parse.specs.Grammar.{Opened, part, after_part, next_arg, labels_begun, block_where, opened}
-use Rattle.vt_parse.proofs.Choices.{empty_read}
-use Rattle.vt_parse.proofs.WordSets.{In, included}
-use Rattle.vt_parse.proofs.Pieces.{has_room, brackets, part_piece}
-use Rattle.vt_parse.proofs.Exact.{exacts, part_exact}
+use Rattle.vt_grammar.specs.declared.parts.Arguments.{Arguments}
+use Rattle.vt_grammar.specs.declared.parts.Part.{Part}
+use Rattle.vt_grammar.specs.declared.words.Word.TheVariants as words
+use Rattle.vt_grammar.specs.Form.{Form, mapped, many_from}
+use Rattle.vt_grammar.specs.Steps.{Read, Stuck}
+use Rattle.vt_grammar.specs.Marks.{Mark}
+use Rattle.vt_grammar.specs.Sets.{just, PartStarts}
+use Rattle.vt_parse.specs.Parses.{peeked_in}
+use Rattle.vt_grammar.specs.Trees.{gathered, left_after, with_part, with_parts, Left}
+use Rattle.vt_grammar.specs.Grammar.{Opened, part, after_part, next_arg, labels_begun, block_where, opened}
+use Rattle.vt_grammar.proofs.Choices.{empty_read}
+use Rattle.vt_grammar.proofs.WordSets.{In, included}
+use Rattle.vt_grammar.proofs.Pieces.{has_room, brackets, part_piece}
+use Rattle.vt_grammar.proofs.Exact.{exacts, part_exact}
 use Rattle.vt_parse.proofs.Gathering.{GathersFrom, from_one, more_parts_step}
 use Rattle.vt_parse.proofs.Rules.{bars_out, moved_on}
 

@@ -3,8 +3,8 @@ use Rattle.std.specs.Prelude.{ℕ, List, [], ◌∷◌}
 use Rattle.vt_lex.specs.declared.token.Token.{Token}
 use Rattle.vt_parse.specs.declared.syntax.SyntaxFault.{SyntaxFault}
 use Rattle.vt_parse.specs.declared.syntax.SyntaxFault.TheVariants.{At, NoMemory}
-use Rattle.vt_parse.specs.Marks.{Spelled}
-use Rattle.vt_parse.specs.Text.{SyntaxRefuses}
+use Rattle.vt_grammar.specs.Marks.{Spelled}
+use Rattle.vt_grammar.specs.Text.{SyntaxRefuses}
 
 -- the tokens are refused on the line of the fault, unless there is no memory
 abbrev pub Refused : List Spelled → SyntaxFault → Type 0

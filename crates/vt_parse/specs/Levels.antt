@@ -5,11 +5,11 @@ use Rattle.vt_tree.specs.declared.expression.ChainKind.TheVariants as chains
 use Rattle.vt_tree.specs.declared.expression.Expr.{Expr}
 use Rattle.vt_parse.specs.declared.classes.Class.{Class}
 use Rattle.vt_parse.specs.declared.classes.Class.TheVariants as classes
-use Rattle.vt_parse.specs.declared.words.Word.{Word}
+use Rattle.vt_grammar.specs.declared.words.Word.{Word}
 use Rattle.vt_parse.specs.Classes.{class_words}
-use Rattle.vt_parse.specs.Form.{Form}
-use Rattle.vt_parse.specs.Grammar.{Opened, unary, term, sum, comp, conj, negation}
-use Rattle.vt_parse.specs.Marks.{Mark}
+use Rattle.vt_grammar.specs.Form.{Form}
+use Rattle.vt_grammar.specs.Grammar.{Opened, unary, term, sum, comp, conj, negation}
+use Rattle.vt_grammar.specs.Marks.{Mark}
 
 -- the operators of a level
 abbrev pub class_of : ChainKind → Class

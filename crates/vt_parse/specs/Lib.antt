@@ -1,16 +1,5 @@
-pub mod Form
-pub mod Steps
-pub mod Marks
-pub mod Values
-pub mod Trees
-pub mod Grammar
-pub mod Sets
+pub mod Rows
 pub mod Classes
 pub mod Levels
 pub mod Parses
-pub mod Text
 pub mod Answers
-pub mod Decided
-pub mod SameWords
-pub mod DecidedPieces
-pub mod Verdict

@@ -1,36 +1,15 @@
 -- What the parser's functions answer.
-use Rattle.std.specs.Prelude.{◌≡◌, ◌≤◌, ℕ, Bool, false, ◌&&◌, List, [], ◌∷◌, length, slice_range, Option, Some, None, Result, Ok, Err}
-use Rattle.vt_lex.specs.declared.token.Token.{Token}
-use Rattle.vt_parse.specs.declared.words.Word.{Word}
+use Rattle.std.specs.Prelude.{◌≡◌, ℕ, Bool, false, ◌&&◌, List, [], ◌∷◌, Option, Some, None, Result, Ok, Err}
+use Rattle.vt_grammar.specs.declared.words.Word.{Word}
 use Rattle.vt_parse.specs.declared.fault.Fault.{Fault}
 use Rattle.vt_parse.specs.declared.fault.Fault.TheVariants.{Here, NoMemory}
 use Rattle.vt_parse.specs.declared.seen.Seen.{Seen}
-use Rattle.vt_parse.specs.Form.{Form}
-use Rattle.vt_parse.specs.Steps.{Read, Stuck}
-use Rattle.vt_parse.specs.Marks.{Mark, Spelled, word_of}
-use Rattle.vt_parse.specs.Values.{HasValue}
-use Rattle.vt_parse.specs.Grammar.{leads, is_set}
-use Rattle.vt_parse.specs.Sets.{ArgStarts, just, peeked_in}
-use Rattle.vt_parse.specs.declared.words.Word.TheVariants as words
-
--- the bytes of a token of this text
-unfoldable pub spelled_in : List ℕ → Token → Spelled
-spelled_in text t = record { token = t; bytes = slice_range text t.from t.to }
-
--- the tokens with the bytes that they have in this text
-abbrev pub spelled : List ℕ → List Token → List Spelled
-spelled text [] = []
-spelled text (t ∷ ts) = spelled_in text t ∷ spelled text ts
-
--- the token stands in the text, and has a value there where it is a number or a text
-pub record IsToken (text : List ℕ) (t : Token) : Type 0 where
-  pub ordered : t.from ≤ t.to
-  pub inside : t.to ≤ length text
-  pub value : HasValue (word_of (spelled_in text t)) (slice_range text t.from t.to)
-
-abbrev pub AreTokens : List ℕ → List Token → Type 0
-AreTokens text [] = Unit {0}
-AreTokens text (t ∷ ts) = IsToken text t × AreTokens text ts
+use Rattle.vt_grammar.specs.Form.{Form}
+use Rattle.vt_grammar.specs.Steps.{Read, Stuck}
+use Rattle.vt_grammar.specs.Marks.{Mark}
+use Rattle.vt_grammar.specs.Grammar.{leads, is_set}
+use Rattle.vt_grammar.specs.Sets.{ArgStarts, just}
+use Rattle.vt_grammar.specs.declared.words.Word.TheVariants as words
 
 -- what the rules see of a token of the parser
 abbrev pub seen : Seen → Mark
@@ -40,6 +19,11 @@ seen s = record { word = s.word; line = s.line; gap = s.gap; bytes = s.bytes.now
 abbrev pub peeked : List Mark → Option Word
 peeked [] = None
 peeked (t ∷ ts) = Some t.word
+
+-- whether the word of the first token is in the set
+abbrev pub peeked_in : (Word → Bool) → List Mark → Bool
+peeked_in F [] = false
+peeked_in F (t ∷ ts) = F t.word
 
 -- whether a blank stands before the second token, and its word
 abbrev pub peeked_second : List Mark → Option (Bool × Word)
@@ -88,6 +72,11 @@ ParsesAs f a old new (Err e) = Fails a old new e
 abbrev pub Makes : {V : Type 0} → V → Result V Fault → Type 0
 Makes v (Ok w) = w ≡ v
 Makes v (Err e) = e ≡ NoMemory
+
+-- what this makes of the value that was read, or the fault where none was
+abbrev pub Maps : {V W : Type 0} → (V → W) → Result V Fault → Result W Fault → Type 0
+Maps f (Ok v) r = r ≡ Ok (f v)
+Maps f (Err e) r = r ≡ Err e
 
 -- this holds, unless there is no memory
 abbrev pub Unless : Type 0 → Result (Unit {0}) Fault → Type 0

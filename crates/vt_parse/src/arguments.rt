@@ -1,8 +1,8 @@
 ghost use Rattle.std.specs.Prelude.{◌≡◌, ◌++◌, nat_lt, true, false, suc};
-ghost use Rattle.vt_parse.specs.Form.{many, many_from, mapped, optional};
-ghost use Rattle.vt_parse.specs.Grammar.{arg, args, command, cond_form, expr, has_label, items, labelled_arg, labels_begun, next_arg, next_item, opened};
+ghost use Rattle.vt_grammar.specs.Form.{many, many_from, mapped, optional};
+ghost use Rattle.vt_grammar.specs.Grammar.{arg, args, command, cond_form, expr, has_label, items, labelled_arg, labels_begun, next_arg, next_item, opened};
 ghost use Rattle.vt_parse.specs.Parses.{Parses, is_command};
-ghost use Rattle.vt_parse.specs.Trees.{gathered};
+ghost use Rattle.vt_grammar.specs.Trees.{gathered};
 
 use crate::fault::Fault;
 use crate::make::{
@@ -10,9 +10,8 @@ use crate::make::{
     make_argument, make_command,
 };
 use crate::parser::Parser;
-use crate::parts::Arguments;
-use crate::words::Word;
 use std::alloc::Global;
+use vt_grammar::{Arguments, Word};
 use vt_tree::{Expr, Exprs};
 
 impl<'a> Parser<'a> {

@@ -1,9 +1,9 @@
 ghost use Rattle.std.specs.Prelude.{◌≡◌, nat_lt};
 ghost use Rattle.vt_parse.specs.Classes.{class_words};
-ghost use Rattle.vt_parse.specs.Grammar.{is_literal, is_paren_open, is_list_open, is_sign, is_term_op, is_sum_op, is_comp_op, is_conj_op, is_disj_op, is_expr_op, is_set, is_condition, leads};
-ghost use Rattle.vt_parse.specs.Sets.{ExprStarts, ArgStarts, StmtStarts};
+ghost use Rattle.vt_grammar.specs.Grammar.{is_literal, is_paren_open, is_list_open, is_sign, is_term_op, is_sum_op, is_comp_op, is_conj_op, is_disj_op, is_expr_op, is_set, is_condition, leads};
+ghost use Rattle.vt_grammar.specs.Sets.{ExprStarts, ArgStarts, StmtStarts};
 
-use crate::words::Word;
+use vt_grammar::Word;
 
 /// A class of words.
 #[derive(Clone, Copy, Debug, PartialEq, Eq)]

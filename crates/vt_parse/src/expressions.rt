@@ -1,9 +1,9 @@
 ghost use Rattle.std.specs.Prelude.{◌≡◌, ◌++◌, nat_lt, true, false, suc};
-ghost use Rattle.vt_parse.specs.Form.{many, many_from, mapped, optional};
-ghost use Rattle.vt_parse.specs.Grammar.{chain, comp, dot, expr, link, literal, named, negated, negation, opened, part, parts_after, postfix, primary, signed, unary};
+ghost use Rattle.vt_grammar.specs.Form.{many, many_from, mapped, optional};
+ghost use Rattle.vt_grammar.specs.Grammar.{chain, comp, dot, expr, link, literal, named, negated, negation, opened, part, parts_after, postfix, primary, signed, unary};
 ghost use Rattle.vt_parse.specs.Levels.{below, class_of, ops_of};
 ghost use Rattle.vt_parse.specs.Parses.{Parses};
-ghost use Rattle.vt_parse.specs.Trees.{with_parts};
+ghost use Rattle.vt_grammar.specs.Trees.{with_parts};
 ghost use Rattle.vt_tree.specs.declared.expression.ChainKind.TheVariants as ChainKind;
 
 use crate::classes::Class;
@@ -14,10 +14,9 @@ use crate::make::{
     make_named, make_part, make_unary, wrapped,
 };
 use crate::parser::Parser;
-use crate::parts::Part;
-use crate::words::Word;
 use sqlite_items::Items;
 use std::alloc::Global;
+use vt_grammar::{Part, Word};
 use vt_tree::{Call, ChainKind, Expr, Link, Links};
 
 /// The most indexes and dots of one value.
@@ -48,7 +47,7 @@ impl<'a> Parser<'a> {
         }
         self.expect_class(Class::ParenOpen)?;
         let inner = self.cond(alloc, room - 1)?;
-        self.expect(Word::ParenClose)?;
+        let inner = self.followed(inner, Word::ParenClose)?;
         Ok(wrapped(inner))
     }
 
@@ -74,8 +73,7 @@ impl<'a> Parser<'a> {
         }
         self.expect(Word::IndexOpen)?;
         let at = self.expr(alloc, room - 1)?;
-        self.expect(Word::ListClose)?;
-        Ok(at)
+        self.followed(at, Word::ListClose)
     }
 
     fn literal(&mut self, alloc: Global) -> Result<Expr, Fault>

@@ -1,4 +1,4 @@
-//! From tokens to trees: the grammar of a text, its laws, and the parser.
+//! The parser: from tokens to the tree that the grammar reads them as, or the line where it refuses them.
 #![tactic(auto)]
 
 mod arguments;
@@ -8,8 +8,9 @@ mod fault;
 mod literals;
 mod make;
 mod parser;
-mod parts;
 mod seen;
+#[cfg(test)]
+mod shape;
 mod statements;
 mod syntax;
 #[cfg(test)]
@@ -20,6 +21,4 @@ mod words;
 ghost use Rattle.vt_parse.specs.Parses.{Parses};
 
 pub use syntax::{SyntaxFault, parse};
-pub use texts::{
-    always_law, apart_law, lexed_law, once_law, prefix_law, single_law, verdict_law, whole_law,
-};
+pub use texts::lexed_law;

@@ -1,18 +1,18 @@
 ghost use Rattle.std.specs.Prelude.{◌≡◌, ◌<◌, ◌^◌, pos};
 ghost use Rattle.std.specs.Str.Parse.{AllDigits, digits_value, digits_value_after};
 ghost use Rattle.vt_parse.specs.Parses.{Makes};
-ghost use Rattle.vt_parse.specs.Trees.{plain};
-ghost use Rattle.vt_parse.specs.Values.{HasValue, fraction_of, literal_at, symbol_name};
+ghost use Rattle.vt_grammar.specs.Trees.{plain};
+ghost use Rattle.vt_grammar.specs.Values.{HasValue, fraction_of, literal_at, symbol_name};
 ghost use Rattle.vt_frac.specs.Decimal.{decimal_of};
 ghost use Rattle.vt_lex.specs.Numbers.{decimal_fits};
 ghost use Rattle.vt_tree.specs.declared.expression.Node.TheVariants as nodes;
-ghost use Rattle.vt_parse.specs.declared.words.Word.TheVariants as Word;
+ghost use Rattle.vt_grammar.specs.declared.words.Word.TheVariants as Word;
 
 use crate::fault::Fault;
 use crate::make::{name_of, plain};
-use crate::words::Word;
 use std::alloc::Global;
 use vt_frac::Frac;
+use vt_grammar::Word;
 use vt_lex::text_value;
 use vt_tree::{Expr, Literal, Node};
 

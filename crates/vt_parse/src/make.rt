@@ -1,8 +1,8 @@
 ghost use Rattle.std.specs.Prelude.{◌≡◌, ◌<◌, ◌+◌, ◌^◌, ◌++◌, ◌∷◌, [], Some, None, codes, true, false};
-ghost use Rattle.vt_parse.specs.Grammar.{all_of, arguments_of, has_label, labels_begun};
-ghost use Rattle.vt_parse.specs.Parses.{Makes, Unless};
-ghost use Rattle.vt_parse.specs.Trees.{arm_tree, block_tree, call_of, call_with, chain_tree, comparison, dot_value, form_tree, gathered, is_bare_get, is_get, is_unless, labelled, left_after, named_value, no_arguments, node_takes_block, op_of, plain, positional, present, set_of, sign_of, stmt_tree, takes_block, with_block, with_part, wrapped};
-ghost use Rattle.vt_parse.specs.Values.{label_name};
+ghost use Rattle.vt_grammar.specs.Grammar.{all_of, arguments_of, has_label, labels_begun};
+ghost use Rattle.vt_parse.specs.Parses.{Makes, Maps, Unless};
+ghost use Rattle.vt_grammar.specs.Trees.{arm_tree, block_tree, call_of, call_with, chain_tree, comparison, dot_value, form_tree, gathered, is_bare_get, is_get, is_unless, labelled, left_after, named_value, no_arguments, node_takes_block, op_of, plain, positional, present, set_of, sign_of, stmt_tree, takes_block, with_block, with_part, wrapped};
+ghost use Rattle.vt_grammar.specs.Values.{label_name};
 ghost use Rattle.vt_tree.specs.declared.expression.Call.{out-Call, roll-Call};
 ghost use Rattle.vt_tree.specs.declared.expression.Expr.{out-Expr};
 ghost use Rattle.vt_tree.specs.declared.expression.Link.{roll-Link};
@@ -11,11 +11,10 @@ ghost use Rattle.vt_tree.specs.declared.expression.Node.TheVariants as nodes;
 ghost use Rattle.vt_tree.specs.declared.statement.Simple.TheVariants as simples;
 
 use crate::fault::Fault;
-use crate::parts::{Arguments, Part};
-use crate::words::Word;
 use sqlite_items::{Boxed, Items};
 use std::alloc::Global;
 use vt_frac::Name;
+use vt_grammar::{Arguments, Part, Word};
 use vt_tree::{
     Arm, Arms, AssignOp, Block, Call, ChainKind, ChainOp, Expr, Exprs, Link, Links, Names, Node,
     Simple, Stmt, StmtForm, Stmts, UnaryOp,
@@ -156,7 +155,7 @@ fn is_get(node: &Node) -> bool
 }
 
 /// Whether the expression is the name `get` alone.
-#[tactic(auto, unfolding(crate::specs::Trees::is_bare_get))]
+#[tactic(auto, unfolding(vt_grammar::specs::Trees::is_bare_get))]
 pub(crate) fn is_bare_get(value: &Expr) -> bool
     ensures { result ≡ is_bare_get value.now }
 {
@@ -196,7 +195,7 @@ fn make_index(alloc: Global, of: Expr, at: Expr) -> Result<Expr, Fault>
 }
 
 /// The value with an index or a dot after it.
-#[tactic(auto, unfolding(crate::specs::Trees::with_part))]
+#[tactic(auto, unfolding(vt_grammar::specs::Trees::with_part))]
 pub(crate) fn make_part(alloc: Global, value: Expr, part: Part) -> Result<Expr, Fault>
     ensures { Makes (with_part value part) result }
 {
@@ -382,7 +381,7 @@ fn node_takes_block(node: &Node) -> bool
 }
 
 /// Whether a `do` may follow.
-#[tactic(auto, unfolding(crate::specs::Trees::takes_block))]
+#[tactic(auto, unfolding(vt_grammar::specs::Trees::takes_block))]
 pub(crate) fn takes_block(value: &Expr) -> bool
     ensures { result ≡ takes_block value.now }
 {
@@ -424,7 +423,7 @@ fn named_with(alloc: Global, name: Name, block: Block) -> Result<Call, Fault>
 }
 
 /// The block goes to the command, the name, the call or the last dot before it.
-#[tactic(auto, unfolding(crate::specs::Trees::with_block))]
+#[tactic(auto, unfolding(vt_grammar::specs::Trees::with_block))]
 pub(crate) fn make_with_block(
     alloc: Global,
     value: Expr,
@@ -489,7 +488,8 @@ pub(crate) fn is_unless(word: Word) -> bool
     }
 }
 
-pub(crate) fn make_stmt(line: u32, simple: Simple, modifier: Option<(bool, Expr)>) -> Stmt
+/// A statement with what may follow it.
+fn stmt_of(line: u32, simple: Simple, modifier: Option<(bool, Expr)>) -> Stmt
     ensures { result ≡ stmt_tree (line, form_tree simple modifier) }
 {
     match modifier {
@@ -505,6 +505,20 @@ pub(crate) fn make_stmt(line: u32, simple: Simple, modifier: Option<(bool, Expr)
                 cond,
             },
         },
+    }
+}
+
+/// The statement, or the fault of its modifier.
+pub(crate) fn make_stmt(
+    line: u32,
+    simple: Simple,
+    modifier: Result<Option<(bool, Expr)>, Fault>,
+) -> Result<Stmt, Fault>
+    ensures { Maps (λ found. stmt_tree (line, form_tree simple found)) modifier result }
+{
+    match modifier {
+        Ok(modifier) => Ok(stmt_of(line, simple, modifier)),
+        Err(fault) => Err(fault),
     }
 }
 
@@ -546,26 +560,24 @@ pub(crate) fn make_block(alloc: Global, number: u32, params: Option<Names>, stmt
     }
 }
 
-pub(crate) fn make_arm(unless: bool, cond: Expr, stmts: Stmts) -> Arm
-    ensures { result ≡ arm_tree unless cond stmts }
+/// The branch, or the fault of its statements.
+pub(crate) fn make_arm(unless: bool, cond: Expr, stmts: Result<Stmts, Fault>) -> Result<Arm, Fault>
+    ensures { Maps (λ found. arm_tree unless cond found) stmts result }
 {
-    Arm {
-        unless,
-        cond,
-        stmts,
+    match stmts {
+        Ok(stmts) => Ok(Arm {
+            unless,
+            cond,
+            stmts,
+        }),
+        Err(fault) => Err(fault),
     }
 }
 
-pub(crate) fn make_iff(
-    alloc: Global,
-    first: Arm,
-    more: Arms,
-    other: Option<Stmts>,
-) -> Result<Simple, Fault>
-    ensures { Makes (simples.Iff (first ∷ more) other) result }
+pub(crate) fn first_arm(alloc: Global, arm: Arm) -> Result<Arms, Fault>
+    ensures { Makes (arm ∷ []) result }
 {
-    let mut arms = Items::new(alloc);
-    arms.push(first)?;
-    arms.append(more)?;
-    Ok(Simple::Iff { arms, other })
+    let mut found = Items::new(alloc);
+    found.push(arm)?;
+    Ok(found)
 }

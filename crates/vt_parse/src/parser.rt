@@ -1,20 +1,23 @@
 ghost use Rattle.std.specs.Prelude.{◌≡◌, ℕ, ◌∷◌, ◌<◌, ◌+◌, ◌^◌, length, Some};
-ghost use Rattle.vt_parse.specs.Grammar.{among, first_line};
-ghost use Rattle.vt_parse.specs.Values.{HasValue};
+ghost use Rattle.vt_grammar.specs.Grammar.{among, first_line, word as word_of_grammar};
+ghost use Rattle.vt_grammar.specs.Values.{HasValue};
 ghost use Rattle.std.specs.Prelude.{IfOk};
-ghost use Rattle.vt_parse.specs.Grammar.{word as word_of_grammar};
-ghost use Rattle.vt_parse.specs.Marks.{marked};
-ghost use Rattle.vt_parse.specs.Parses.{AreTokens, ParsesAs, is_assign, is_command, leads_second, peeked, peeked_second, sets_second, peeked_line, seen, spelled};
-ghost use Rattle.vt_parse.specs.Sets.{ArgStarts, ExprStarts, PartStarts, StmtStarts, just, peeked_in, with_room};
+ghost use Rattle.vt_grammar.specs.Form.{mapped};
+ghost use Rattle.vt_grammar.specs.Marks.{marked};
+ghost use Rattle.vt_grammar.specs.Tokens.{AreTokens, spelled};
+ghost use Rattle.vt_parse.specs.Parses.{Parses, ParsesAs, is_assign, is_command, leads_second, peeked, peeked_second, sets_second, peeked_line, seen, peeked_in};
+ghost use Rattle.vt_grammar.specs.Sets.{ArgStarts, ExprStarts, PartStarts, StmtStarts, just, with_room};
 ghost use Rattle.std.specs.Prelude.{◌&&◌, nat_lt};
 ghost use Rattle.vt_parse.specs.Classes.{class_words};
 
 use crate::classes::{Class, is_of, leads, starts_arg, starts_expr, starts_stmt};
 use crate::fault::Fault;
 use crate::seen::Seen;
-use crate::words::{Word, number_with, same, word_at};
+use crate::words::{number_with, same, word_at};
 use std::marker::Model;
+use vt_grammar::Word;
 use vt_lex::Token;
+use vt_tree::Expr;
 
 /// The tokens that are left of a text, and how many blocks have begun before them.
 #[derive(Drop)]
@@ -26,8 +29,8 @@ pub struct Parser<'a> {
 
 impl<'a> Model for Parser<'a> {
     ghost use Rattle.std.specs.Prelude.{ℕ, List, length, ◌<◌, ◌+◌, ◌^◌};
-    ghost use Rattle.vt_parse.specs.Marks.{Mark, marked};
-    ghost use Rattle.vt_parse.specs.Parses.{AreTokens, spelled};
+    ghost use Rattle.vt_grammar.specs.Marks.{Mark, marked};
+    ghost use Rattle.vt_grammar.specs.Tokens.{AreTokens, spelled};
 
     ghost Value = { List Mark };
 
@@ -225,6 +228,18 @@ impl<'a> Parser<'a> {
     {
         if self.at(word) {
             Ok(self.bump())
+        } else {
+            Err(Fault::Here)
+        }
+    }
+
+    /// The value, where a token of this word follows it.
+    pub(crate) fn followed(&mut self, value: Expr, word: Word) -> Result<Expr, Fault>
+        ensures { Parses (mapped (λ _. value) (word_of_grammar word)) self.old self.new result }
+    {
+        if self.at(word) {
+            self.bump();
+            Ok(value)
         } else {
             Err(Fault::Here)
         }

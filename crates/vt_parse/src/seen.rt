@@ -1,4 +1,4 @@
-use crate::words::Word;
+use vt_grammar::Word;
 
 /// A token that was passed, as the rules see it.
 #[derive(Clone, Copy)]

@@ -1,22 +1,22 @@
 ghost use Rattle.std.specs.Prelude.{◌≡◌, ◌++◌, nat_lt, true, false, suc};
-ghost use Rattle.vt_parse.specs.Form.{many, many_from, mapped, optional};
-ghost use Rattle.vt_parse.specs.Form.{either};
-ghost use Rattle.vt_parse.specs.Grammar.{assign, block, block_where, elsif, line, modifier, names_of, next_param, opened, otherwise, params, rhs, simple, stmt};
+ghost use Rattle.vt_grammar.specs.Form.{many, many_from, mapped, next, optional, either};
+ghost use Rattle.vt_grammar.specs.Grammar.{assign, block, block_where, elsif, line, modifier, names_of, next_param, opened, otherwise, params, rhs, simple, stmt, word};
 ghost use Rattle.vt_parse.specs.Parses.{Parses, ParsesAs, is_assign, seen};
-ghost use Rattle.vt_parse.specs.Trees.{present};
+ghost use Rattle.vt_grammar.specs.Trees.{present};
+ghost use Rattle.vt_grammar.specs.declared.words.Word.TheVariants as Word;
 ghost use Rattle.vt_tree.specs.declared.statement.Simple.TheVariants as simples;
 
 use crate::classes::Class;
 use crate::fault::Fault;
 use crate::make::{
-    add_present, first_name, first_stmts, is_unless, make_arm, make_assign, make_block, make_iff,
+    add_present, first_arm, first_name, first_stmts, is_unless, make_arm, make_assign, make_block,
     make_stmt, make_with_block, name_of, takes_block,
 };
 use crate::parser::Parser;
 use crate::seen::Seen;
-use crate::words::Word;
 use sqlite_items::Items;
 use std::alloc::Global;
+use vt_grammar::Word;
 use vt_tree::{Arm, Arms, Block, Expr, Names, Simple, Stmt, Stmts};
 
 impl<'a> Parser<'a> {
@@ -105,8 +105,8 @@ impl<'a> Parser<'a> {
     {
         let line = self.line();
         let simple = self.simple(alloc, room)?;
-        let modifier = self.maybe_modifier(alloc, room)?;
-        Ok(make_stmt(line, simple, modifier))
+        let modifier = self.maybe_modifier(alloc, room);
+        make_stmt(line, simple, modifier)
     }
 
     #[cycle(parser)]
@@ -239,21 +239,22 @@ impl<'a> Parser<'a> {
     {
         self.expect(Word::Elsif)?;
         let cond = self.cond(alloc, room)?;
-        self.expect(Word::Newline)?;
-        let stmts = self.block(alloc, room)?;
-        Ok(make_arm(false, cond, stmts))
+        let cond = self.followed(cond, Word::Newline)?;
+        let stmts = self.block(alloc, room);
+        make_arm(false, cond, stmts)
     }
 
+    /// The branches after those that were found.
     #[cycle(parser)]
-    fn elsifs(&mut self, alloc: Global, room: u32) -> Result<Arms, Fault>
-        ensures { Parses (many (elsif (opened room))) self.old self.new result }
+    fn elsifs(&mut self, alloc: Global, room: u32, found: Arms) -> Result<Arms, Fault>
+        ensures { Parses (mapped (λ more. found ++ more) (many (elsif (opened room)))) self.old self.new result }
     {
-        let mut found = Items::new(alloc);
+        let mut all = found;
         'arms: while self.at(Word::Elsif) {
             let arm = self.elsif(alloc, room)?;
-            found.push(arm)?;
+            all.push(arm)?;
         }
-        Ok(found)
+        Ok(all)
     }
 
     #[cycle(parser)]
@@ -285,12 +286,21 @@ impl<'a> Parser<'a> {
         }
         let opening = self.expect_class(Class::Condition)?;
         let cond = self.cond(alloc, room - 1)?;
-        self.expect(Word::Newline)?;
-        let stmts = self.block(alloc, room - 1)?;
-        let more = self.elsifs(alloc, room - 1)?;
-        let other = self.maybe_otherwise(alloc, room - 1)?;
+        let cond = self.followed(cond, Word::Newline)?;
+        let stmts = self.block(alloc, room - 1);
+        let first = make_arm(is_unless(opening.word), cond, stmts)?;
+        let found = first_arm(alloc, first)?;
+        self.branches(alloc, room - 1, found)
+    }
+
+    /// The branches after those that were found, and the `end`.
+    #[cycle(parser)]
+    fn branches(&mut self, alloc: Global, room: u32, found: Arms) -> Result<Simple, Fault>
+        ensures { Parses (mapped (λ rest. simples.Iff (found ++ rest.0) rest.1.0) (next (many (elsif (opened room))) (λ _. next (optional (otherwise (opened room))) (λ _. word Word.End)))) self.old self.new result }
+    {
+        let arms = self.elsifs(alloc, room, found)?;
+        let other = self.maybe_otherwise(alloc, room)?;
         self.expect(Word::End)?;
-        let first = make_arm(is_unless(opening.word), cond, stmts);
-        make_iff(alloc, first, more, other)
+        Ok(Simple::Iff { arms, other })
     }
 }

@@ -1,8 +1,8 @@
 ghost use Rattle.std.specs.Prelude.{◌≡◌, ◌<◌, ◌^◌, IfErr, IfOk, None, length};
 ghost use Rattle.vt_parse.specs.Answers.{Refused, end_line};
-ghost use Rattle.vt_parse.specs.Parses.{AreTokens, spelled};
-ghost use Rattle.vt_parse.specs.Text.{Reads};
-ghost use Rattle.vt_parse.specs.Trees.{block_tree};
+ghost use Rattle.vt_grammar.specs.Tokens.{AreTokens, spelled};
+ghost use Rattle.vt_grammar.specs.Text.{Reads};
+ghost use Rattle.vt_grammar.specs.Trees.{block_tree};
 
 use crate::fault::Fault;
 use crate::make::make_block;

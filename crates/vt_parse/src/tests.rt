@@ -1,190 +1,365 @@
-ghost use Rattle.std.specs.Prelude.{◌≡◌, ◌≤◌, length, true};
-ghost use Rattle.vt_parse.specs.Parses.{AreTokens, IsToken};
-ghost use Rattle.vt_parse.specs.Values.{HasValue};
+ghost use Rattle.std.specs.Prelude.{◌≤◌, length};
 
-use crate::words::{Word, word_at};
+use crate::shape::{add_block, add_many};
 use crate::{SyntaxFault, parse};
-use std::alloc::Global;
-use vt_lex::{Token, lex};
+use std::alloc::{AllocGlobal, Global};
+use std::process::Abort;
+use std::test::Fail;
+use vt_lex::{LexFault, lex};
+use vt_tree::Block;
 
-/// The texts of these tests have no numbers and no texts, whose forms the parser trusts.
-fn has_value(word: Word, bytes: &[u8]) -> bool
-    ensures { result ≡ true → HasValue word bytes.now }
-{
-    let _ = bytes;
-    match word {
-        Word::Whole | Word::Decimal | Word::Text => false,
-        _ => true,
-    }
-}
-
-#[tactic(auto, unfolding(crate::specs::Marks::word_of, crate::specs::Parses::spelled_in))]
-fn is_token(text: &[u8], token: &Token) -> bool
-    ensures { result ≡ true → IsToken text.now token.now }
-{
-    if token.from <= token.to && token.to as usize <= text.len() {
-        let bytes = &text[token.from as usize..token.to as usize];
-        return has_value(word_at(token.kind, token.gap, token.tight, bytes), bytes);
-    }
-    false
-}
-
-fn are_tokens(text: &[u8], tokens: &[Token]) -> bool
-    ensures { result ≡ true → AreTokens text.now tokens.now }
-{
-    match tokens {
-        [] => true,
-        [token, rest @ ..] => is_token(text, token) && are_tokens(text, rest),
-    }
-}
-
-/// 0 where the text is read, the line where it is refused, or above 1000 for another answer.
-fn refused_at(alloc: Global, text: &[u8]) -> u32
+/// The tree of a text, or where it is refused.
+fn read(alloc: Global, text: &[u8]) -> Result<Result<Block, SyntaxFault>, LexFault>
     requires { length text.now ≤ 1048576 }
 {
-    let Ok(tokens) = lex(alloc, text, 1) else {
-        return 1001;
-    };
-    let tokens = tokens.as_slice();
-    if tokens.len() < 1000 && are_tokens(text, tokens) {
-        return match parse(alloc, text, tokens) {
-            Ok(_) => 0,
-            Err(SyntaxFault::At { line }) => line,
-            Err(SyntaxFault::NoMemory) => 1002,
-        };
+    let tokens = lex(alloc, text, 1)?;
+    Ok(parse(alloc, text, &tokens))
+}
+
+/// The shape of a text's tree, or the fault.
+fn answer(alloc: Global, text: &[u8]) -> Result<String, Fail>
+    requires { length text.now ≤ 1048576 }
+{
+    match read(alloc, text)? {
+        Ok(block) => {
+            let mut shape = String::new(alloc);
+            add_block(&mut shape, &block)?;
+            Ok(shape)
+        }
+        Err(fault) => Ok(fault.to_string(alloc)?),
     }
-    1003
+}
+
+/// Sees that each text has the answer beside it.
+fn check_texts<X: AllocGlobal + Abort>(rt: &X, cases: &[(&str, &str)]) -> Result<(), Fail> {
+    for (text, wanted) in cases {
+        assert!(rt; text.len() < 1000);
+        let found = answer(rt.alloc(), text.as_bytes())?;
+        assert_eq!(rt; found.as_str(), *wanted, "{text:?}");
+    }
+    Ok(())
 }
 
 #[test]
-fn texts_are_read_or_refused_on_their_line(rt: HostRuntime) {
-    let cases: [(&[u8], u32); 62] = [
-        (b"".as_slice(), 0),
-        (b"\n\n", 0),
-        (b"puts :n,", 1),
-        (b"play (", 1),
-        (b"play :n\nplay :n", 0),
-        (b"loop do\nplay :n\nend if x", 0),
-        (b"x -y", 0),
-        (b"x - y", 0),
-        (b"x --:n", 1),
-        (b"play -y", 0),
-        (b"f(:n) do\nend", 0),
-        (b"(f) do\nend", 1),
-        (b"r.tick do\nend", 0),
-        (b"r.tick { } do\nend", 1),
-        (b"[:n, a: :n]", 1),
-        (b"f(:n, a: :n)", 0),
-        (b"f(a: :n, :n)", 1),
-        (b"f a: :n, :n", 1),
-        (b"x\nif x", 2),
-        (b"if x\nend\nend", 3),
-        (b"if x\nelse :n\nend", 0),
-        (b"if x :n\nend", 0),
-        (b"unless x\n:n\nelsif y\n:n\nelse\n:n\nend", 0),
-        (b"if x\n:n\nelse\n:n\nelsif y\n:n\nend", 5),
-        (b"x = :n", 0),
-        (b"x += y :n", 0),
-        (b"x = if y", 1),
-        (b":n do\nend", 1),
-        (b":n + f do\nend", 1),
-        (b"-f do\nend", 1),
-        (b"a == b", 0),
-        (b"a == b == c", 1),
-        (b"not a and b or c", 0),
-        (b"a && b || !c", 0),
-        (b"get[:n]", 0),
-        (b"get[:n][:n].x", 0),
-        (b"get [:n]", 0),
-        (b"x[:n]", 0),
-        (b"x [:n]", 0),
-        (b"f g :n", 1),
-        (b"f (g :n)", 0),
-        (b"f(g :n)", 1),
-        (b"f x.y do |a, b|\nend", 0),
-        (b"f do |a,|\nend", 1),
-        (b"f do |a|; end", 0),
-        (b"f do || end", 1),
-        (b"x.map { |a| a + :n }", 0),
-        (b"x.map { |a|\n a + :n\n}", 0),
-        (b"x.map {\n:n", 2),
-        (b"f { }", 1),
-        (b"while x", 1),
-        (b"x.if", 1),
-        (b":n if :n if :n", 1),
-        (b":n;;:n", 0),
-        (b":n :n", 1),
-        (b"f :n :n", 1),
-        (b"]", 1),
-        (b"f()", 0),
-        (b"[]", 0),
-        (b"[:n,]", 1),
-        (b"x.y(:n).z", 0),
-        (b"x . y", 0),
+fn literals_and_names_are_themselves(rt: HostRuntime) -> Result<(), Fail> {
+    check_texts(
+        &rt,
+        &[
+            ("nil", "{0 1:nil}"),
+            ("true", "{0 1:true}"),
+            ("false", "{0 1:false}"),
+            ("x", "{0 1:x}"),
+            (":x", "{0 1::x}"),
+            ("007", "{0 1:7}"),
+            ("9223372036854775807", "{0 1:9223372036854775807}"),
+            ("0.50", "{0 1:1/2}"),
+            ("2.0", "{0 1:2/1}"),
+            ("\"a\\tb\\\"\"", "{0 1:\"a\tb\"\"}"),
+            ("'it\\'s'", "{0 1:\"it's\"}"),
+        ],
+    )
+}
+
+#[test]
+fn calls_have_their_arguments(rt: HostRuntime) -> Result<(), Fail> {
+    check_texts(
+        &rt,
+        &[
+            ("play 60", "{0 1:(play 60)}"),
+            ("play 60, amp: 2, if: :x", "{0 1:(play 60 amp: 2 if: :x)}"),
+            ("play amp: 2, pan: -1", "{0 1:(play amp: 2 pan: (- 1))}"),
+            ("puts x, 1 + 2", "{0 1:(puts x (Sum 1 + 2))}"),
+            ("f()", "{0 1:(f())}"),
+            ("f(1, g(2), a: 3)", "{0 1:(f() 1 (g() 2) a: 3)}"),
+            ("f (g 1)", "{0 1:(f <(g 1)>)}"),
+            ("f [1], x", "{0 1:(f [ 1] x)}"),
+            ("f !x", "{0 1:(f (! x))}"),
+            ("x -1", "{0 1:(x (- 1))}"),
+            ("x -y", "{0 1:(x (- y))}"),
+            ("x - 1", "{0 1:(Sum x - 1)}"),
+            ("x-1", "{0 1:(Sum x - 1)}"),
+        ],
+    )
+}
+
+#[test]
+fn parentheses_are_counted_and_make_no_node(rt: HostRuntime) -> Result<(), Fail> {
+    check_texts(
+        &rt,
+        &[
+            ("(1)", "{0 1:<1>}"),
+            ("((x))", "{0 1:<<x>>}"),
+            ("(f 1)", "{0 1:<(f 1)>}"),
+            ("(\n1\n)", "{0 1:<1>}"),
+            ("(1 + 2) * 3", "{0 1:(Term <(Sum 1 + 2)> * 3)}"),
+            ("-(x)", "{0 1:(- <x>)}"),
+            ("(x).y", "{0 1:(. <x> (y))}"),
+        ],
+    )
+}
+
+#[test]
+fn lists_indexes_and_dots_nest(rt: HostRuntime) -> Result<(), Fail> {
+    check_texts(
+        &rt,
+        &[
+            ("[]", "{0 1:[]}"),
+            ("[1, [x, 2], :a]", "{0 1:[ 1 [ x 2] :a]}"),
+            ("x[0]", "{0 1:(@ x 0)}"),
+            ("x[0][y + 1]", "{0 1:(@ (@ x 0) (Sum y + 1))}"),
+            ("x [0]", "{0 1:(x [ 0])}"),
+            ("x.y", "{0 1:(. x (y))}"),
+            ("x . y", "{0 1:(. x (y))}"),
+            ("x.y().z[1]", "{0 1:(@ (. (. x (y())) (z)) 1)}"),
+            ("x.y(1, a: 2)", "{0 1:(. x (y() 1 a: 2))}"),
+            (
+                "x.map { |a| a + 1 }",
+                "{0 1:(. x (map {1 | a | 1:(Sum a + 1)}))}",
+            ),
+            ("x.y(1) {\n a\n\n b\n}", "{0 1:(. x (y() 1 {1 2:a 4:b}))}"),
+            ("get[0]", "{0 1:(get() 0)}"),
+            ("get[:a][1].x", "{0 1:(. (@ (get() :a) 1) (x))}"),
+            ("get [1]", "{0 1:(get [ 1])}"),
+            ("x.get[0]", "{0 1:(@ (. x (get)) 0)}"),
+            ("(get)[0]", "{0 1:(@ <get> 0)}"),
+        ],
+    )
+}
+
+#[test]
+fn operators_bind_by_their_level(rt: HostRuntime) -> Result<(), Fail> {
+    check_texts(
+        &rt,
+        &[
+            ("-x", "{0 1:(- x)}"),
+            ("!x.y", "{0 1:(! (. x (y)))}"),
+            ("not x", "{0 1:(! x)}"),
+            ("a - -b", "{0 1:(Sum a - (- b))}"),
+            ("a * b / c % d", "{0 1:(Term a * b / c % d)}"),
+            ("a + b - c", "{0 1:(Sum a + b - c)}"),
+            ("a +\n\nb", "{0 1:(Sum a + b)}"),
+            ("a + b * c", "{0 1:(Sum a + (Term b * c))}"),
+            ("a * b + c", "{0 1:(Sum (Term a * b) + c)}"),
+            ("a && b && c", "{0 1:(Conj a and b and c)}"),
+            ("a || b || c", "{0 1:(Disj a or b or c)}"),
+            (
+                "a && b || c && d",
+                "{0 1:(Disj (Conj a and b) or (Conj c and d))}",
+            ),
+            ("a and b or c", "{0 1:(Expr a and b or c)}"),
+            ("a or b || c", "{0 1:(Expr a or (Disj b or c))}"),
+            ("not a and not b", "{0 1:(Expr (! a) and (! b))}"),
+            ("not a || b", "{0 1:(! (Disj a or b))}"),
+            (
+                "a && b == c + d * -e",
+                "{0 1:(Conj a and (Comp b == (Sum c + (Term d * (- e)))))}",
+            ),
+        ],
+    )
+}
+
+#[test]
+fn comparisons_have_one_operator(rt: HostRuntime) -> Result<(), Fail> {
+    check_texts(
+        &rt,
+        &[
+            ("a == b", "{0 1:(Comp a == b)}"),
+            ("a != b", "{0 1:(Comp a != b)}"),
+            ("a < b", "{0 1:(Comp a < b)}"),
+            ("a <= b", "{0 1:(Comp a <= b)}"),
+            ("a > b", "{0 1:(Comp a > b)}"),
+            ("a >= b + 1", "{0 1:(Comp a >= (Sum b + 1))}"),
+            ("a == b == c", "syntax 1"),
+        ],
+    )
+}
+
+#[test]
+fn statements_assign_and_take_conditions(rt: HostRuntime) -> Result<(), Fail> {
+    check_texts(
+        &rt,
+        &[
+            ("x = 1", "{0 1:(= x 1)}"),
+            ("x += y 1", "{0 1:(+= x (y 1))}"),
+            ("x -= -1", "{0 1:(-= x (- 1))}"),
+            ("x *= f do\nend", "{0 1:(*= x (f {1}))}"),
+            ("play 1 if x", "{0 1:((play 1) if x)}"),
+            ("x = 1 unless y > 2", "{0 1:((= x 1) unless (Comp y > 2))}"),
+            ("x if f 1", "{0 1:(x if (f 1))}"),
+            ("if x\n1\nend unless y", "{0 1:((Iff (if x 2:1)) unless y)}"),
+        ],
+    )
+}
+
+#[test]
+fn branches_stand_in_their_order(rt: HostRuntime) -> Result<(), Fail> {
+    check_texts(
+        &rt,
+        &[
+            ("if x\nend", "{0 1:(Iff (if x))}"),
+            ("if x; 1; end", "{0 1:(Iff (if x 1:1))}"),
+            ("if x :a\nend", "{0 1:(Iff (if (x :a)))}"),
+            ("if x\nelse :a\nend", "{0 1:(Iff (if x) (else 2::a))}"),
+            (
+                "unless x\n1\nelse\nend",
+                "{0 1:(Iff (unless x 2:1) (else))}",
+            ),
+            (
+                "unless x\n1\nelsif y\n2\nelsif z\n3\n4\nelse\n5\nend",
+                "{0 1:(Iff (unless x 2:1) (if y 4:2) (if z 6:3 7:4) (else 9:5))}",
+            ),
+            (
+                "if x\nif y\n1\nend\nend",
+                "{0 1:(Iff (if x 2:(Iff (if y 3:1))))}",
+            ),
+        ],
+    )
+}
+
+#[test]
+fn blocks_are_numbered_by_their_first_token(rt: HostRuntime) -> Result<(), Fail> {
+    check_texts(
+        &rt,
+        &[
+            ("loop do\nplay 1\nend", "{0 1:(loop {1 2:(play 1)})}"),
+            ("loop do\n1\nend if x", "{0 1:((loop {1 2:1}) if x)}"),
+            ("live_loop :x do\nend", "{0 1:(live_loop :x {1})}"),
+            ("f(1) do\nend", "{0 1:(f() 1 {1})}"),
+            ("get[0] do\nend", "{0 1:(get() 0 {1})}"),
+            (
+                "5.times do |i|\ni\nend",
+                "{0 1:(. 5 (times {1 | i | 2:i}))}",
+            ),
+            ("f do |a, b|; a; b; end", "{0 1:(f {1 | a b | 1:a 1:b})}"),
+            (
+                "a do\nb do\nend\nend\nc do\nend",
+                "{0 1:(a {1 2:(b {2})}) 5:(c {3})}",
+            ),
+            (
+                "x.map { |a| a.map { } }.y { 1 }",
+                "{0 1:(. (. x (map {1 | a | 1:(. a (map {2}))})) (y {3 1:1}))}",
+            ),
+            (
+                "f x.map { 1 } do\n2\nend",
+                "{0 1:(f (. x (map {1 1:1})) {2 2:2})}",
+            ),
+        ],
+    )
+}
+
+#[test]
+fn lines_without_a_statement_are_nothing(rt: HostRuntime) -> Result<(), Fail> {
+    check_texts(
+        &rt,
+        &[
+            ("", "{0}"),
+            ("\n\n", "{0}"),
+            ("# x", "{0}"),
+            ("x\n", "{0 1:x}"),
+            ("x\n\n\ny", "{0 1:x 4:y}"),
+            (";x;;y", "{0 1:x 1:y}"),
+            ("\n x # y\n", "{0 2:x}"),
+        ],
+    )
+}
+
+#[test]
+fn texts_are_refused_on_their_line(rt: HostRuntime) -> Result<(), Fail> {
+    check_texts(
+        &rt,
+        &[
+            ("puts :n,", "syntax 1"),
+            ("play (", "syntax 1"),
+            ("x --:n", "syntax 1"),
+            ("(f) do\nend", "syntax 1"),
+            ("r.tick { } do\nend", "syntax 1"),
+            ("[:n, a: :n]", "syntax 1"),
+            ("f(a: :n, :n)", "syntax 1"),
+            ("f a: :n, :n", "syntax 1"),
+            ("x\nif x", "syntax 2"),
+            ("if x\nend\nend", "syntax 3"),
+            ("if x\n:n\nelse\n:n\nelsif y\n:n\nend", "syntax 5"),
+            ("x = if y", "syntax 1"),
+            (":n do\nend", "syntax 1"),
+            (":n + f do\nend", "syntax 1"),
+            ("-f do\nend", "syntax 1"),
+            ("f g :n", "syntax 1"),
+            ("f(g :n)", "syntax 1"),
+            ("f do |a,|\nend", "syntax 1"),
+            ("f do || end", "syntax 1"),
+            ("x.map {\n:n", "syntax 2"),
+            ("f { }", "syntax 1"),
+            ("while x", "syntax 1"),
+            ("x.if", "syntax 1"),
+            (":n if :n if :n", "syntax 1"),
+            (":n :n", "syntax 1"),
+            ("f :n :n", "syntax 1"),
+            ("]", "syntax 1"),
+            ("[:n,]", "syntax 1"),
+        ],
+    )
+}
+
+/// Why the text of these parts, each so many times, is refused.
+fn fault_of<X: AllocGlobal + Abort>(
+    rt: &X,
+    parts: &[(&str, u32)],
+) -> Result<Option<SyntaxFault>, Fail> {
+    let mut text = String::new(rt.alloc());
+    for (part, count) in parts {
+        add_many(&mut text, part, *count)?;
+    }
+    assert!(rt; text.len() < 10000);
+    Ok(read(rt.alloc(), text.as_bytes())?.err())
+}
+
+/// Sees that the text of `most` is read, and that of `more` refused on this line.
+fn check_limit<X: AllocGlobal + Abort>(
+    rt: &X,
+    most: &[(&str, u32)],
+    more: &[(&str, u32)],
+    line: u32,
+) -> Result<(), Fail> {
+    assert_eq!(rt; fault_of(rt, most)?, None, "{most:?}");
+    assert_eq!(rt;
+        fault_of(rt, more)?,
+        Some(SyntaxFault::At { line }),
+        "{more:?}"
+    );
+    Ok(())
+}
+
+#[test]
+fn sixty_four_brackets_and_blocks_may_be_open(rt: HostRuntime) -> Result<(), Fail> {
+    let cases: &[(&str, &str, &str)] = &[
+        ("(\n", "x", ")"),
+        ("[\n", "x", "]"),
+        ("f(\n", "x", ")"),
+        ("x[\n", "x", "]"),
+        ("x.y {\n", "x", "}\n"),
+        ("f do\n", "x\n", "end\n"),
+        ("if x\n", "x\n", "end\n"),
     ];
-    let mut at = 0;
-    for (text, line) in cases {
-        if text.len() <= 1048576 {
-            assert_eq!(&rt; refused_at(rt.alloc(), text), line, "case {at}");
-        }
-        if at < 1000 {
-            at += 1;
-        }
+    for (opening, inner, closing) in cases {
+        let most = [(*opening, 64), (*inner, 1), (*closing, 64)];
+        let more = [(*opening, 65), (*inner, 1), (*closing, 65)];
+        check_limit(&rt, &most, &more, 65)?;
     }
-}
-
-/// `part` so many times, `middle`, and `tail` so many times.
-fn nested(alloc: Global, part: &[u8], count: u32, middle: &[u8], tail: &[u8]) -> u32 {
-    let mut text = Vec::new(alloc);
-    for _ in 0..count {
-        if text.extend_from_slice(part).is_err() {
-            return 1004;
-        }
-    }
-    if text.extend_from_slice(middle).is_err() {
-        return 1004;
-    }
-    for _ in 0..count {
-        if text.extend_from_slice(tail).is_err() {
-            return 1004;
-        }
-    }
-    if text.len() <= 1048576 {
-        return refused_at(alloc, text.as_slice());
-    }
-    1005
+    Ok(())
 }
 
 #[test]
-fn the_limits_hold(rt: HostRuntime) {
-    let alloc = rt.alloc();
-    assert_eq!(&rt; nested(alloc, b"(", 64, b"x", b")"), 0);
-    assert_eq!(&rt; nested(alloc, b"(\n", 65, b"x", b")"), 65);
-    assert_eq!(&rt; nested(alloc, b"if x\n", 64, b"", b"end\n"), 0);
-    assert_eq!(&rt; nested(alloc, b"if x\n", 65, b"", b"end\n"), 65);
-    assert_eq!(&rt; nested(alloc, b".a", 16, b"", b""), 1);
-    assert_eq!(&rt;
-        nested(alloc, b"\nx.a", 16, b".a.a.a.a.a.a.a.a.a.a.a.a.a.a.a", b""),
-        0
-    );
-    assert_eq!(&rt;
-        nested(
-            alloc,
-            b"\nx.a",
-            16,
-            b".a.a.a.a.a.a.a.a.a.a.a.a.a.a.a.\na",
-            b""
-        ),
-        17
-    );
-    assert_eq!(&rt;
-        nested(
-            alloc,
-            b"\nget[:n].a",
-            16,
-            b".a.a.a.a.a.a.a.a.a.a.a.a.a.a.a",
-            b""
-        ),
-        0
-    );
+fn sixteen_indexes_and_dots_may_follow_a_value(rt: HostRuntime) -> Result<(), Fail> {
+    let cases: &[(&str, &str, &str)] = &[
+        ("x", ".a", ".\na"),
+        ("x", "[0]", "[\n0]"),
+        ("get[0]", ".a", ".\na"),
+        ("get[0]", "[0]", "[\n0]"),
+    ];
+    for (value, part, last) in cases {
+        let most = [(*value, 1), (*part, 16)];
+        let more = [(*value, 1), (*part, 16), (*last, 1)];
+        check_limit(&rt, &most, &more, 1)?;
+    }
+    Ok(())
 }

@@ -1,4 +1,5 @@
 pub mod ByteLemmas
+pub mod DecidedLemmas
 pub mod Lists
 pub mod PathSteps
 pub mod Fronts

@@ -1,4 +1,5 @@
 use crate::{CALL_COUNT, CallName, NameTable, Need, call_of, chord_of, note_of, scale_of};
+use std::process::Abort;
 
 #[test]
 fn a_table_finds_its_names_and_no_others(rt: HostRuntime) {
@@ -19,61 +20,16 @@ fn a_table_finds_its_names_and_no_others(rt: HostRuntime) {
     assert_eq!(rt; one.find(b"y"), None);
 }
 
-#[test]
-fn calls_have_the_rows_of_the_language(rt: HostRuntime) {
-    // the name, the least and the greatest count, the block, dot, effect
-    let rows = [
-        ("abs", 1, 1, Need::None, true, false),
-        ("bools", 0, 255, Need::None, true, false),
-        ("chord", 2, 2, Need::None, true, false),
-        ("choose", 1, 1, Need::None, true, false),
-        ("cue", 1, 255, Need::None, false, true),
-        ("current_bpm", 0, 0, Need::None, false, true),
-        ("define", 1, 1, Need::Must, false, true),
-        ("dice", 0, 1, Need::None, true, false),
-        ("drop", 2, 2, Need::None, true, false),
-        ("drop_last", 2, 2, Need::None, true, false),
-        ("each", 1, 1, Need::Must, true, true),
-        ("get", 1, 1, Need::None, false, true),
-        ("in_thread", 0, 0, Need::Must, false, true),
-        ("knit", 0, 255, Need::None, true, false),
-        ("line", 2, 2, Need::None, true, false),
-        ("live_loop", 1, 1, Need::Must, false, true),
-        ("look", 0, 2, Need::None, true, true),
-        ("loop", 0, 0, Need::Must, false, true),
-        ("map", 1, 1, Need::Must, true, true),
-        ("max", 2, 2, Need::None, true, false),
-        ("pick", 1, 2, Need::None, true, false),
-        ("play", 1, 1, Need::None, false, true),
-        ("print", 0, 16, Need::None, false, true),
-        ("puts", 0, 16, Need::None, false, true),
-        ("rand", 0, 1, Need::None, true, false),
-        ("rand_i", 1, 1, Need::None, true, false),
-        ("range", 2, 3, Need::None, true, false),
-        ("ring", 0, 255, Need::None, true, false),
-        ("rotate", 1, 2, Need::None, true, false),
-        ("rrand_i", 2, 2, Need::None, true, false),
-        ("rt", 1, 1, Need::None, false, true),
-        ("set", 2, 2, Need::None, false, true),
-        ("shuffle", 1, 1, Need::None, true, false),
-        ("sleep", 1, 1, Need::None, false, true),
-        ("stop", 0, 0, Need::None, false, true),
-        ("sync", 1, 1, Need::None, false, true),
-        ("tick", 0, 2, Need::None, true, true),
-        ("tick_reset", 0, 1, Need::None, false, true),
-        ("tick_set", 1, 2, Need::None, false, true),
-        ("times", 1, 1, Need::Must, true, true),
-        ("use_synth_defaults", 0, 0, Need::None, false, true),
-        ("vt", 0, 0, Need::None, false, true),
-        ("with_fx", 1, 1, Need::Must, false, true),
-        ("with_synth", 1, 1, Need::Must, false, true),
-    ];
-    for (name, least, most, block, dot, effect) in rows {
-        let row = call_of(name.as_bytes()).expect(&rt, name);
-        assert_eq!(rt; row.least, least, "{name}");
-        assert_eq!(rt; row.most, most, "{name}");
-        assert_eq!(rt; row.block, block, "{name}");
-        assert_eq!(rt; row.dot, dot, "{name}");
+/// The name, the least and the greatest count, the block, and whether a dot may stand before it.
+type Row = (&'static str, u8, u8, Need, bool);
+
+fn check_rows<X: Abort>(rt: &X, effect: bool, rows: &[Row]) {
+    for (name, least, most, block, dot) in rows {
+        let row = call_of(name.as_bytes()).expect(rt, name);
+        assert_eq!(rt; row.least, *least, "{name}");
+        assert_eq!(rt; row.most, *most, "{name}");
+        assert_eq!(rt; row.block, *block, "{name}");
+        assert_eq!(rt; row.dot, *dot, "{name}");
         assert_eq!(rt; row.effect, effect, "{name}");
         assert_eq!(rt;
             CallName::of_number(row.number).number(),
@@ -81,6 +37,74 @@ fn calls_have_the_rows_of_the_language(rt: HostRuntime) {
             "{name}"
         );
     }
+}
+
+#[test]
+fn calls_with_effects_have_their_rows(rt: HostRuntime) {
+    check_rows(
+        &rt,
+        true,
+        &[
+            ("cue", 1, 255, Need::None, false),
+            ("current_bpm", 0, 0, Need::None, false),
+            ("define", 1, 1, Need::Must, false),
+            ("each", 1, 1, Need::Must, true),
+            ("get", 1, 1, Need::None, false),
+            ("in_thread", 0, 0, Need::Must, false),
+            ("live_loop", 1, 1, Need::Must, false),
+            ("look", 0, 2, Need::None, true),
+            ("loop", 0, 0, Need::Must, false),
+            ("map", 1, 1, Need::Must, true),
+            ("play", 1, 1, Need::None, false),
+            ("print", 0, 16, Need::None, false),
+            ("puts", 0, 16, Need::None, false),
+            ("rt", 1, 1, Need::None, false),
+            ("set", 2, 2, Need::None, false),
+            ("sleep", 1, 1, Need::None, false),
+            ("stop", 0, 0, Need::None, false),
+            ("sync", 1, 1, Need::None, false),
+            ("tick", 0, 2, Need::None, true),
+            ("tick_reset", 0, 1, Need::None, false),
+            ("tick_set", 1, 2, Need::None, false),
+            ("times", 1, 1, Need::Must, true),
+            ("use_synth_defaults", 0, 0, Need::None, false),
+            ("vt", 0, 0, Need::None, false),
+            ("with_fx", 1, 1, Need::Must, false),
+            ("with_synth", 1, 1, Need::Must, false),
+        ],
+    );
+}
+
+#[test]
+fn pure_and_random_calls_have_their_rows(rt: HostRuntime) {
+    check_rows(
+        &rt,
+        false,
+        &[
+            ("abs", 1, 1, Need::None, true),
+            ("bools", 0, 255, Need::None, true),
+            ("chord", 2, 2, Need::None, true),
+            ("choose", 1, 1, Need::None, true),
+            ("dice", 0, 1, Need::None, true),
+            ("drop", 2, 2, Need::None, true),
+            ("drop_last", 2, 2, Need::None, true),
+            ("knit", 0, 255, Need::None, true),
+            ("line", 2, 2, Need::None, true),
+            ("max", 2, 2, Need::None, true),
+            ("pick", 1, 2, Need::None, true),
+            ("rand", 0, 1, Need::None, true),
+            ("rand_i", 1, 1, Need::None, true),
+            ("range", 2, 3, Need::None, true),
+            ("ring", 0, 255, Need::None, true),
+            ("rotate", 1, 2, Need::None, true),
+            ("rrand_i", 2, 2, Need::None, true),
+            ("shuffle", 1, 1, Need::None, true),
+        ],
+    );
+}
+
+#[test]
+fn other_names_are_no_calls(rt: HostRuntime) {
     for name in ["", "at", "Play", "plays", "pla", "if", "zip", "rand-i"] {
         assert_eq!(rt; call_of(name.as_bytes()), None, "{name}");
     }
@@ -103,7 +127,7 @@ fn a_number_and_a_call_agree(rt: HostRuntime) {
 }
 
 #[test]
-fn notes_have_their_midi_numbers(rt: HostRuntime) {
+fn each_letter_has_its_notes_in_each_octave(rt: HostRuntime) {
     let letters: [(u8, u8); 7] = [
         (b'c', 0),
         (b'd', 2),
@@ -128,6 +152,10 @@ fn notes_have_their_midi_numbers(rt: HostRuntime) {
             assert_eq!(rt; note_of(&[letter, b'b', digit]), Some(natural - 1));
         }
     }
+}
+
+#[test]
+fn notes_have_their_midi_numbers(rt: HostRuntime) {
     for (name, number) in [
         ("c4", 60),
         ("a4", 69),

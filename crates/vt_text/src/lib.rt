@@ -1,6 +1,7 @@
 //! The text of a score.
 #![tactic(auto)]
 
+mod deeds;
 mod lines;
 mod parts;
 mod score;

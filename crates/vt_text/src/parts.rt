@@ -1,13 +1,17 @@
-// The parts that lines are made of. Each is added at the end of a text.
-ghost use Rattle.std.specs.Prelude.{◌≡◌, ◌++◌, ◌≤◌, OnOk, codes, decimal, length};
-ghost use Rattle.std.specs.Fmt.{signed_decimal};
+//! The parts that lines are made of. Each is added at the end of a text.
+
+ghost use Rattle.std.specs.Prelude.{◌≡◌, ◌++◌, OnOk, codes, decimal};
 ghost use Rattle.std.specs.List.{flat_map};
-ghost use Rattle.vt_text.specs.ScoreText.{thread_text, micro_text, place_text, fault_word};
+ghost use Rattle.std.specs.Option.{option_copied};
+ghost use Rattle.vt_value.specs.Kinds.{ring_of};
+ghost use Rattle.vt_text.specs.ScoreText.{after_blank, fx_text, micro_text, option_text, options_text, place_text, shown_path, spread_items, spread_text, thread_text};
 
 use itoa::Buffer;
 use std::alloc::Global;
-use vt_event::{FaultKind, Place, ThreadId};
-use vt_frac::NoMemory;
+use vt_event::{FxId, Options, Place, ThreadId};
+use vt_frac::{Name, NoMemory};
+use vt_path::Path;
+use vt_value::Value;
 
 pub fn write_bytes(out: &mut Vec<u8>, bytes: &[u8]) -> Result<(), NoMemory>
     ensures { OnOk result (out.new.items ≡ out.old.items ++ bytes.now) }
@@ -18,13 +22,6 @@ pub fn write_bytes(out: &mut Vec<u8>, bytes: &[u8]) -> Result<(), NoMemory>
 
 pub fn write_number(out: &mut Vec<u8>, number: u64) -> Result<(), NoMemory>
     ensures { OnOk result (out.new.items ≡ out.old.items ++ decimal number) }
-{
-    let mut buffer = Buffer::new();
-    write_bytes(out, buffer.format(number).as_bytes())
-}
-
-pub fn write_signed(out: &mut Vec<u8>, number: i64) -> Result<(), NoMemory>
-    ensures { OnOk result (out.new.items ≡ out.old.items ++ signed_decimal number) }
 {
     let mut buffer = Buffer::new();
     write_bytes(out, buffer.format(number).as_bytes())
@@ -77,11 +74,87 @@ pub fn write_place(alloc: Global, out: &mut Vec<u8>, place: &Place) -> Result<()
     write_thread(out, &place.thread)
 }
 
-pub fn fault_word(kind: FaultKind) -> &'static [u8]
-    ensures { result.now ≡ fault_word kind }
+fn write_option(alloc: Global, out: &mut Vec<u8>, option: &(Name, Value)) -> Result<(), NoMemory>
+    ensures { OnOk result (out.new.items ≡ out.old.items ++ option_text option.now) }
 {
-    match kind {
-        FaultKind::Overflow => b"overflow",
-        FaultKind::Syntax => b"syntax",
+    let (name, value) = option;
+    write_bytes(out, b" ")?;
+    write_bytes(out, name.as_bytes())?;
+    write_bytes(out, b": ")?;
+    value.write(alloc, out)
+}
+
+pub fn write_options(alloc: Global, out: &mut Vec<u8>, options: &Options) -> Result<(), NoMemory>
+    ensures { OnOk result (out.new.items ≡ out.old.items ++ options_text options.now) }
+{
+    let options = options.as_slice();
+    for option in options {
+        write_option(alloc, out, option)?;
+    }
+    Ok(())
+}
+
+/// The effect in which an event stands.
+pub fn write_fx(out: &mut Vec<u8>, fx: Option<&FxId>) -> Result<(), NoMemory>
+    ensures { OnOk result (out.new.items ≡ out.old.items ++ fx_text (option_copied fx.entry)) }
+{
+    match fx {
+        None => Ok(()),
+        Some(fx) => {
+            write_bytes(out, b" in ")?;
+            write_thread(out, &fx.thread)?;
+            write_bytes(out, b"#")?;
+            write_number(out, u64::from(fx.number))
+        }
+    }
+}
+
+pub fn write_path(alloc: Global, out: &mut Vec<u8>, path: Option<&Path>) -> Result<(), NoMemory>
+    ensures { OnOk result (out.new.items ≡ out.old.items ++ shown_path (option_copied path.entry)) }
+{
+    match path {
+        None => Ok(()),
+        Some(path) => path.write(alloc, out),
+    }
+}
+
+pub fn write_after_blank(alloc: Global, out: &mut Vec<u8>, value: &Value) -> Result<(), NoMemory>
+    ensures { OnOk result (out.new.items ≡ out.old.items ++ after_blank value.now) }
+{
+    write_bytes(out, b" ")?;
+    value.write(alloc, out)
+}
+
+fn write_after_blanks(alloc: Global, out: &mut Vec<u8>, values: &[Value]) -> Result<(), NoMemory>
+    ensures { OnOk result (out.new.items ≡ out.old.items ++ flat_map after_blank values.now) }
+{
+    for value in values {
+        write_after_blank(alloc, out, value)?;
+    }
+    Ok(())
+}
+
+/// The items of a ring.
+fn ring(value: &Value) -> Option<&[Value]>
+    ensures { option_copied result ≡ ring_of value.now }
+{
+    match value {
+        Value::Ring(items) => Some(items.as_slice()),
+        Value::Nil => None,
+        Value::Bool(_) => None,
+        Value::Whole(_) => None,
+        Value::Part(_) => None,
+        Value::Sym(_) => None,
+        Value::Text(_) => None,
+    }
+}
+
+/// The items of a ring, each after a blank, or another value after a blank.
+pub fn write_spread(alloc: Global, out: &mut Vec<u8>, value: &Value) -> Result<(), NoMemory>
+    ensures { OnOk result (out.new.items ≡ out.old.items ++ spread_text value.now) }
+{
+    match ring(value) {
+        Some(items) => write_after_blanks(alloc, out, items),
+        None => write_after_blank(alloc, out, value),
     }
 }

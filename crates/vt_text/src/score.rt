@@ -1,7 +1,7 @@
-// The whole text.
-ghost use Rattle.std.specs.Prelude.{◌≡◌, ◌++◌, IfOk, OnOk};
-ghost use Rattle.std.specs.List.{flat_map};
-ghost use Rattle.vt_text.specs.ScoreText.{event_line, living_line, newline, score_text_of};
+//! The whole text.
+
+ghost use Rattle.std.specs.Prelude.{◌≡◌, ◌++◌, IfOk, OnOk, length};
+ghost use Rattle.vt_text.specs.ScoreText.{event_lines, living_lines, score_text_of, shown};
 
 use crate::lines::{write_event, write_living};
 use crate::parts::{write_bytes, write_number};
@@ -9,18 +9,35 @@ use std::alloc::Global;
 use vt_event::{Event, Living, Score};
 use vt_frac::NoMemory;
 
+/// The lines of the events that are shown.
 fn write_events(alloc: Global, out: &mut Vec<u8>, events: &[Event]) -> Result<(), NoMemory>
-    ensures { OnOk result (out.new.items ≡ out.old.items ++ flat_map (λ event. event_line event ++ newline) events.now) }
+    ensures { OnOk result (out.new.items ≡ out.old.items ++ event_lines events.now) }
 {
     for event in events {
-        write_event(alloc, out, event)?;
-        write_bytes(out, b"\n")?;
+        let kind = event.kind();
+        if kind.is_shown() {
+            write_event(alloc, out, event)?;
+            write_bytes(out, b"\n")?;
+        }
     }
     Ok(())
 }
 
+/// How many events are shown.
+fn count_shown(events: &[Event]) -> usize
+    ensures { result ≡ length (shown events.now) }
+{
+    let mut count = 0;
+    for event in events {
+        if event.kind().is_shown() {
+            count += 1;
+        }
+    }
+    count
+}
+
 fn write_livings(alloc: Global, out: &mut Vec<u8>, livings: &[Living]) -> Result<(), NoMemory>
-    ensures { OnOk result (out.new.items ≡ out.old.items ++ flat_map (λ living. living_line living ++ newline) livings.now) }
+    ensures { OnOk result (out.new.items ≡ out.old.items ++ living_lines livings.now) }
 {
     for living in livings {
         write_living(alloc, out, living)?;
@@ -29,8 +46,8 @@ fn write_livings(alloc: Global, out: &mut Vec<u8>, livings: &[Living]) -> Result
     Ok(())
 }
 
-/// The text of a score: a line for each event, a line for each living thread, and the line of the end, each with its
-/// newline. It fails only for want of memory.
+/// The text of a score: a line for each event that is shown, a line for each living thread, and the line of the end, each
+/// with its newline. It fails only for want of memory.
 #[tactic(auto, unfolding(crate::specs::ScoreText::score_text_of))]
 pub fn score_text(alloc: Global, score: &Score) -> Result<Vec<u8>, NoMemory>
     ensures { IfOk result (λ text. text.items ≡ score_text_of score.now) }
@@ -40,7 +57,7 @@ pub fn score_text(alloc: Global, score: &Score) -> Result<Vec<u8>, NoMemory>
     write_events(alloc, &mut text, events)?;
     write_livings(alloc, &mut text, score.living.as_slice())?;
     write_bytes(&mut text, b"end ")?;
-    write_number(&mut text, events.len() as u64)?;
+    write_number(&mut text, count_shown(events) as u64)?;
     write_bytes(&mut text, b"\n")?;
     Ok(text)
 }

@@ -2,7 +2,8 @@ use crate::{
     ArithOp, FaultKind, Integer, Items, OrderOp, Symbol, Value, ValueFault, arith, compare,
     is_symbol_name, sizes,
 };
-use std::alloc::Global;
+use std::alloc::{AllocGlobal, Global};
+use std::process::Abort;
 use std::test::Fail;
 use vt_frac::{Frac, Name};
 
@@ -10,7 +11,7 @@ const MOST: i64 = i64::MAX;
 
 /// A value to be made for a case.
 #[derive(Clone, Copy, Debug)]
-enum Seed {
+enum Sample {
     Nil,
     True,
     False,
@@ -21,7 +22,8 @@ enum Seed {
     R(&'static [i64]),
 }
 
-use Seed::{False, Nil, P, R, S, T, True, W};
+use ArithOp::{Add, Div, Mul, Rem, Sub};
+use Sample::{False, Nil, P, R, S, T, True, W};
 
 fn whole(number: i64) -> Result<Value, Fail> {
     Ok(Value::Whole(Integer::new(number).ok_or("no whole number")?))
@@ -35,16 +37,16 @@ fn numbers(alloc: Global, numbers: &[i64]) -> Result<Items, Fail> {
     Ok(items)
 }
 
-fn made(alloc: Global, seed: Seed) -> Result<Value, Fail> {
+fn made(alloc: Global, seed: Sample) -> Result<Value, Fail> {
     match seed {
-        Seed::Nil => Ok(Value::Nil),
-        Seed::True => Ok(Value::Bool(true)),
-        Seed::False => Ok(Value::Bool(false)),
-        Seed::W(n) => whole(n),
-        Seed::P(n, d) => Ok(Value::Part(Frac::new(n, d)?)),
-        Seed::S(name) => symbol(alloc, name),
-        Seed::T(text) => Ok(Value::Text(Name::of(alloc, text.as_bytes())?)),
-        Seed::R(items) => Ok(Value::Ring(numbers(alloc, items)?)),
+        Sample::Nil => Ok(Value::Nil),
+        Sample::True => Ok(Value::Bool(true)),
+        Sample::False => Ok(Value::Bool(false)),
+        Sample::W(n) => whole(n),
+        Sample::P(n, d) => Ok(Value::Part(Frac::new(n, d)?)),
+        Sample::S(name) => symbol(alloc, name),
+        Sample::T(text) => Ok(Value::Text(Name::of(alloc, text.as_bytes())?)),
+        Sample::R(items) => Ok(Value::Ring(numbers(alloc, items)?)),
     }
 }
 
@@ -64,86 +66,15 @@ fn answer(alloc: Global, outcome: Result<Value, ValueFault>) -> Result<Vec<u8>, 
     Ok(text)
 }
 
-#[test]
-fn operators_give_what_the_table_says(rt: HostRuntime) -> Result<(), Fail> {
-    use ArithOp::{Add, Div, Mul, Rem, Sub};
+fn check_arith<X: AllocGlobal + Abort>(
+    rt: &X,
+    cases: &[(ArithOp, Sample, Sample, &str)],
+) -> Result<(), Fail> {
     let alloc = rt.alloc();
-    for (op, a, b, want) in [
-        (Add, W(1), W(2), "3"),
-        (Sub, W(1), W(2), "-1"),
-        (Mul, W(-3), W(4), "-12"),
-        (Div, W(7), W(2), "3"),
-        (Div, W(-7), W(2), "-4"),
-        (Div, W(7), W(-2), "-4"),
-        (Div, W(-7), W(-2), "3"),
-        (Rem, W(7), W(2), "1"),
-        (Rem, W(-7), W(2), "1"),
-        (Rem, W(7), W(-2), "-1"),
-        (Rem, W(-7), W(-2), "-1"),
-        (Rem, W(6), W(-2), "0"),
-        (Div, W(1), W(0), "zero_divisor"),
-        (Rem, W(1), W(0), "zero_divisor"),
-        (Div, W(0), W(5), "0"),
-        (Add, W(MOST), W(1), "overflow"),
-        (Add, W(MOST), W(0), "9223372036854775807"),
-        (Add, W(-MOST), W(-1), "overflow"),
-        (Sub, W(-MOST), W(0), "-9223372036854775807"),
-        (Sub, W(-MOST), W(1), "overflow"),
-        (Sub, W(0), W(MOST), "-9223372036854775807"),
-        (Mul, W(3037000500), W(3037000500), "overflow"),
-        (Mul, W(3037000499), W(3037000499), "9223372030926249001"),
-        (Mul, W(4294967296), W(-2147483648), "overflow"),
-        (Mul, W(MOST), W(-1), "-9223372036854775807"),
-        (Div, W(-MOST), W(-1), "9223372036854775807"),
-        (Div, W(MOST), W(-2), "-4611686018427387904"),
-        (Rem, W(-1), W(MOST), "9223372036854775806"),
-        (Rem, W(1), W(-MOST), "-9223372036854775806"),
-        (Rem, W(-MOST), W(MOST), "0"),
-        (Div, W(7), P(2, 1), "7/2"),
-        (Div, P(7, 1), W(2), "7/2"),
-        (Add, W(1), P(1, 2), "3/2"),
-        (Add, P(1, 2), P(1, 2), "1"),
-        (Sub, P(1, 2), W(1), "-1/2"),
-        (Mul, P(2, 3), P(3, 2), "1"),
-        (Mul, P(-1, 2), W(3), "-3/2"),
-        (Div, P(1, 2), P(1, 4), "2"),
-        (Rem, P(7, 2), W(2), "3/2"),
-        (Rem, P(-7, 2), W(2), "1/2"),
-        (Rem, P(7, 2), W(-2), "-1/2"),
-        (Rem, W(7), P(-3, 2), "-1/2"),
-        (Rem, P(1, 3), P(1, 2), "1/3"),
-        (Div, P(1, 2), W(0), "zero_divisor"),
-        (Div, W(1), P(0, 1), "zero_divisor"),
-        (Rem, P(1, 2), P(0, 1), "zero_divisor"),
-        (Add, P(MOST, 1), P(1, 1), "overflow"),
-        (Add, P(MOST, 1), P(-1, 1), "9223372036854775806"),
-        (Mul, P(1, MOST), P(1, 2), "overflow"),
-        (Div, P(MOST, 1), P(1, 2), "overflow"),
-        (Sub, P(MOST, 2), P(1, 2), "4611686018427387903"),
-        (Add, T("ab"), T("c"), "\"abc\""),
-        (Add, T(""), T(""), "\"\""),
-        (Add, R(&[1, 2]), R(&[3]), "[1, 2, 3]"),
-        (Add, R(&[]), R(&[]), "[]"),
-        (Add, R(&[1]), R(&[]), "[1]"),
-        (Sub, T("ab"), T("b"), "wrong_kind"),
-        (Mul, R(&[1]), R(&[1]), "wrong_kind"),
-        (Div, T("a"), T("b"), "wrong_kind"),
-        (Rem, R(&[1]), R(&[1]), "wrong_kind"),
-        (Add, T("a"), S("a"), "wrong_kind"),
-        (Add, S("a"), S("b"), "wrong_kind"),
-        (Add, R(&[1]), W(1), "wrong_kind"),
-        (Add, W(1), R(&[1]), "wrong_kind"),
-        (Add, T("1"), W(1), "wrong_kind"),
-        (Add, P(1, 2), T("1"), "wrong_kind"),
-        (Div, W(1), Nil, "wrong_kind"),
-        (Div, Nil, W(0), "wrong_kind"),
-        (Mul, True, W(1), "wrong_kind"),
-        (Sub, W(1), False, "wrong_kind"),
-        (Add, Nil, Nil, "wrong_kind"),
-    ] {
-        let left = made(alloc, a)?;
-        let right = made(alloc, b)?;
-        let got = answer(alloc, arith(alloc, op, &left, &right))?;
+    for (op, a, b, want) in cases {
+        let left = made(alloc, *a)?;
+        let right = made(alloc, *b)?;
+        let got = answer(alloc, arith(alloc, *op, &left, &right))?;
         assert_eq!(rt;
             got.as_slice(),
             want.as_bytes(),
@@ -151,6 +82,122 @@ fn operators_give_what_the_table_says(rt: HostRuntime) -> Result<(), Fail> {
         );
     }
     Ok(())
+}
+
+#[test]
+fn whole_numbers_stay_whole(rt: HostRuntime) -> Result<(), Fail> {
+    check_arith(
+        &rt,
+        &[
+            (Add, W(1), W(2), "3"),
+            (Sub, W(1), W(2), "-1"),
+            (Mul, W(-3), W(4), "-12"),
+            (Div, W(7), W(2), "3"),
+            (Div, W(-7), W(2), "-4"),
+            (Div, W(7), W(-2), "-4"),
+            (Div, W(-7), W(-2), "3"),
+            (Rem, W(7), W(2), "1"),
+            (Rem, W(-7), W(2), "1"),
+            (Rem, W(7), W(-2), "-1"),
+            (Rem, W(-7), W(-2), "-1"),
+            (Rem, W(6), W(-2), "0"),
+            (Div, W(1), W(0), "zero_divisor"),
+            (Rem, W(1), W(0), "zero_divisor"),
+            (Div, W(0), W(5), "0"),
+        ],
+    )
+}
+
+#[test]
+fn whole_numbers_have_limits(rt: HostRuntime) -> Result<(), Fail> {
+    check_arith(
+        &rt,
+        &[
+            (Add, W(MOST), W(1), "overflow"),
+            (Add, W(MOST), W(0), "9223372036854775807"),
+            (Add, W(-MOST), W(-1), "overflow"),
+            (Sub, W(-MOST), W(0), "-9223372036854775807"),
+            (Sub, W(-MOST), W(1), "overflow"),
+            (Sub, W(0), W(MOST), "-9223372036854775807"),
+            (Mul, W(3037000500), W(3037000500), "overflow"),
+            (Mul, W(3037000499), W(3037000499), "9223372030926249001"),
+            (Mul, W(4294967296), W(-2147483648), "overflow"),
+            (Mul, W(MOST), W(-1), "-9223372036854775807"),
+            (Div, W(-MOST), W(-1), "9223372036854775807"),
+            (Div, W(MOST), W(-2), "-4611686018427387904"),
+            (Rem, W(-1), W(MOST), "9223372036854775806"),
+            (Rem, W(1), W(-MOST), "-9223372036854775806"),
+            (Rem, W(-MOST), W(MOST), "0"),
+        ],
+    )
+}
+
+#[test]
+fn parts_are_exact(rt: HostRuntime) -> Result<(), Fail> {
+    check_arith(
+        &rt,
+        &[
+            (Div, W(7), P(2, 1), "7/2"),
+            (Div, P(7, 1), W(2), "7/2"),
+            (Add, W(1), P(1, 2), "3/2"),
+            (Add, P(1, 2), P(1, 2), "1"),
+            (Sub, P(1, 2), W(1), "-1/2"),
+            (Mul, P(2, 3), P(3, 2), "1"),
+            (Mul, P(-1, 2), W(3), "-3/2"),
+            (Div, P(1, 2), P(1, 4), "2"),
+            (Rem, P(7, 2), W(2), "3/2"),
+            (Rem, P(-7, 2), W(2), "1/2"),
+            (Rem, P(7, 2), W(-2), "-1/2"),
+            (Rem, W(7), P(-3, 2), "-1/2"),
+            (Rem, P(1, 3), P(1, 2), "1/3"),
+            (Div, P(1, 2), W(0), "zero_divisor"),
+            (Div, W(1), P(0, 1), "zero_divisor"),
+            (Rem, P(1, 2), P(0, 1), "zero_divisor"),
+            (Add, P(MOST, 1), P(1, 1), "overflow"),
+            (Add, P(MOST, 1), P(-1, 1), "9223372036854775806"),
+            (Mul, P(1, MOST), P(1, 2), "overflow"),
+            (Div, P(MOST, 1), P(1, 2), "overflow"),
+            (Sub, P(MOST, 2), P(1, 2), "4611686018427387903"),
+        ],
+    )
+}
+
+#[test]
+fn texts_and_rings_are_joined(rt: HostRuntime) -> Result<(), Fail> {
+    check_arith(
+        &rt,
+        &[
+            (Add, T("ab"), T("c"), "\"abc\""),
+            (Add, T(""), T(""), "\"\""),
+            (Add, R(&[1, 2]), R(&[3]), "[1, 2, 3]"),
+            (Add, R(&[]), R(&[]), "[]"),
+            (Add, R(&[1]), R(&[]), "[1]"),
+        ],
+    )
+}
+
+#[test]
+fn other_pairs_are_of_a_wrong_kind(rt: HostRuntime) -> Result<(), Fail> {
+    check_arith(
+        &rt,
+        &[
+            (Sub, T("ab"), T("b"), "wrong_kind"),
+            (Mul, R(&[1]), R(&[1]), "wrong_kind"),
+            (Div, T("a"), T("b"), "wrong_kind"),
+            (Rem, R(&[1]), R(&[1]), "wrong_kind"),
+            (Add, T("a"), S("a"), "wrong_kind"),
+            (Add, S("a"), S("b"), "wrong_kind"),
+            (Add, R(&[1]), W(1), "wrong_kind"),
+            (Add, W(1), R(&[1]), "wrong_kind"),
+            (Add, T("1"), W(1), "wrong_kind"),
+            (Add, P(1, 2), T("1"), "wrong_kind"),
+            (Div, W(1), Nil, "wrong_kind"),
+            (Div, Nil, W(0), "wrong_kind"),
+            (Mul, True, W(1), "wrong_kind"),
+            (Sub, W(1), False, "wrong_kind"),
+            (Add, Nil, Nil, "wrong_kind"),
+        ],
+    )
 }
 
 /// Which way a value is nested: a ring with one item, or with another item in front of or behind the ring in it.

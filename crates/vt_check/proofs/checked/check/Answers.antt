@@ -1,5 +1,5 @@
 use Rattle.std.proofs.Common.{refl}
-use Rattle.vt_check.specs.Parts.{in_block}
+use Rattle.vt_tree.specs.Parts.{in_block}
 use Rattle.vt_check.proofs.CheckedLemmas.{allowed_by, refused_by}
 use Rattle.vt_check.proofs.JudgingLemmas.{moved}
 use Rattle.vt_check.proofs.checked.check.Goals as goal

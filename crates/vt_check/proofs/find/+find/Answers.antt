@@ -8,8 +8,8 @@ use Rattle.vt_tree.specs.declared.statement.Block.{out-Block}
 use Rattle.vt_tree.specs.declared.statement.Simple.TheVariants as simples
 use Rattle.vt_tree.specs.declared.statement.Stmt.{out-Stmt}
 use Rattle.vt_tree.specs.declared.statement.StmtForm.TheVariants as forms
-use Rattle.vt_check.specs.Parts.{after_dot, at_line, children, each, if_there, in_arm, in_expr, in_form, in_link, in_simple, in_stmt, inside, site, whole_block}
-use Rattle.vt_check.proofs.PartsLemmas.{in_node-is, in_simple-is, in_form-is, in_call-out, in_expr-out, in_link-out, in_arm-out, in_block-out, in_stmt-out}
+use Rattle.vt_tree.specs.Parts.{after_dot, at_line, children, each, if_there, in_arm, in_expr, in_form, in_link, in_simple, in_stmt, inside, site, whole_block}
+use Rattle.vt_tree.proofs.PartsLemmas.{in_node-is, in_simple-is, in_form-is, in_call-out, in_expr-out, in_link-out, in_arm-out, in_block-out, in_stmt-out}
 use Rattle.vt_check.proofs.FindLemmas.{finds_by, finds_at, finds_nothing, finds_first, finds_then, finds_some, finds_none, finds_here, finds_other, finds_called, finds_of, left_all, left_next, left_finds, left_none}
 use Rattle.vt_check.proofs.find.+find.Goals as goal
 

@@ -1,4 +1,4 @@
-use Rattle.vt_check.specs.Parts.{in_arm, in_expr, in_link, in_stmt}
+use Rattle.vt_tree.specs.Parts.{in_arm, in_expr, in_link, in_stmt}
 use Rattle.vt_check.proofs.FindLemmas.{Left}
 use Rattle.vt_check.proofs.find.+find.Given as goal
 

@@ -2,11 +2,11 @@ use Rattle.std.proofs.Common.{◌≡◌, refl, ap, sym, ◌∙◌, [], ℕ, zero
 use Rattle.std.specs.Prelude.{slice_get}
 use Rattle.vt_tree.specs.declared.expression.Node.TheFolds.{every_made-Block}
 use Rattle.vt_tree.specs.declared.statement.Block.{Block, out-Block, roll-Block, out-roll-Block}
-use Rattle.vt_check.specs.Parts.{blocks, blocks_of, in_text}
-use Rattle.vt_check.specs.WellFormed.{IsFormedBlock, IsWellFormed, GoodNode, GoodSimple, GoodForm, GoodCall, GoodExpr, GoodLink, GoodArm, GoodBlock, GoodStmt}
-use Rattle.vt_check.specs.Forms.{IsName}
+use Rattle.vt_tree.specs.Parts.{blocks, blocks_of, in_text}
+use Rattle.vt_tree.specs.WellFormed.{IsFormedBlock, IsWellFormed, GoodNode, GoodSimple, GoodForm, GoodCall, GoodExpr, GoodLink, GoodArm, GoodBlock, GoodStmt}
+use Rattle.vt_tree.specs.Forms.{IsName}
 use Rattle.std.proofs.lemmas.List.Elements.{All-nil}
-use Rattle.vt_check.proofs.PartsLemmas.{in_block-is}
+use Rattle.vt_tree.proofs.PartsLemmas.{in_block-is}
 use Rattle.vt_check.proofs.tests.empty_text.Goals as goal
 
 abbrev tree : Block

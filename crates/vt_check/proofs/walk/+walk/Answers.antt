@@ -3,8 +3,8 @@ use Rattle.vt_tree.specs.declared.expression.Node.TheOpen.{Node-F, Simple-F, Stm
 use Rattle.vt_tree.specs.declared.expression.Node.TheVariants as nodes
 use Rattle.vt_tree.specs.declared.statement.Simple.TheVariants as simples
 use Rattle.vt_tree.specs.declared.statement.StmtForm.TheVariants as forms
-use Rattle.vt_check.specs.Parts.{each, children, in_arm, in_block, in_call, in_expr, in_link, in_form, in_stmt, if_there, site, whole_block, inside}
-use Rattle.vt_check.proofs.PartsLemmas.{in_node-is, in_simple-is, in_form-is, in_call-out, in_expr-out, in_link-out, in_arm-out, in_block-out, in_stmt-out}
+use Rattle.vt_tree.specs.Parts.{each, children, in_arm, in_block, in_call, in_expr, in_link, in_form, in_stmt, if_there, site, whole_block, inside}
+use Rattle.vt_tree.proofs.PartsLemmas.{in_node-is, in_simple-is, in_form-is, in_call-out, in_expr-out, in_link-out, in_arm-out, in_block-out, in_stmt-out}
 use Rattle.vt_check.specs.Judging.{place_of, site_of}
 use Rattle.vt_check.proofs.JudgingLemmas.{judges_at, judges_none, judges_first, judges_then, handed_on, moved, left_all, left_next, left_fails, left_none, judges_sound, judges_fault, judges_wanting, of_none, of_some, opened_then}
 use Rattle.vt_check.proofs.walk.+walk.Goals as goal

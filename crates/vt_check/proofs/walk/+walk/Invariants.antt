@@ -1,4 +1,4 @@
-use Rattle.vt_check.specs.Parts.{in_arm, in_expr, in_link, in_stmt}
+use Rattle.vt_tree.specs.Parts.{in_arm, in_expr, in_link, in_stmt}
 use Rattle.vt_check.specs.Judging.{place_of}
 use Rattle.vt_check.proofs.JudgingLemmas.{Left}
 use Rattle.vt_check.proofs.walk.+walk.Given as goal

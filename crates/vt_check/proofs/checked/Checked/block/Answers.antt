@@ -1,5 +1,5 @@
 use Rattle.std.proofs.Common.{◌∙◌, ap}
-use Rattle.vt_check.specs.Parts.{in_text}
+use Rattle.vt_tree.specs.Parts.{in_text}
 use Rattle.vt_check.specs.Checked.{block_at}
 use Rattle.vt_check.proofs.CheckedLemmas.{block_of_number, found_number, found_sound}
 use Rattle.vt_check.proofs.checked.Checked.block.Goals as goal

@@ -1,23 +1,24 @@
 use Rattle.std.proofs.Common.{◌≡◌, ◌-◌, suc, Bool, true, false, [], ◌∷◌, ◌++◌, refl, sym, ap, ◌∙◌, arith}
 use Rattle.vt_tree.specs.declared.expression.ChainKind.TheVariants as chains
+use Rattle.vt_tree.specs.declared.expression.Expr.{out-Expr}
 use Rattle.vt_tree.specs.declared.statement.Simple.TheVariants as simples
-use Rattle.vt_parse.specs.declared.words.Word.TheVariants as words
-use Rattle.vt_parse.specs.Form.{many_from}
-use Rattle.vt_parse.specs.Sets.{just, ParenStarts, ListStarts, CallStarts, IndexStarts, BraceStarts, DoStarts, IffStarts, GroupStarts, NameStarts, PrimaryStarts, UnaryStarts, ExprStarts, ArgStarts, StmtStarts}
+use Rattle.vt_grammar.specs.declared.words.Word.TheVariants as words
+use Rattle.vt_grammar.specs.Form.{many_from}
+use Rattle.vt_grammar.specs.Sets.{just, ParenStarts, ListStarts, CallStarts, IndexStarts, BraceStarts, DoStarts, IffStarts, GroupStarts, NameStarts, PrimaryStarts, UnaryStarts, ExprStarts, ArgStarts, StmtStarts}
 use Rattle.vt_parse.specs.Levels.{below, ops_of}
-use Rattle.vt_parse.specs.Trees.{arm_tree, form_tree, stmt_tree, gathered, no_arguments, present, takes_block}
-use Rattle.vt_parse.specs.Grammar.{is_literal, is_paren_open, is_list_open, is_sign, is_condition, is_set, is_comp_op, named, primary, dot, part, after_part, parts_after, postfix, signed, unary, link, chain, term, sum, comp, conj, disj, negated, negation, expr, labelled_arg, plain_arg, arg, next_arg, labels_begun, has_label, args, next_item, items, command, block_where, rhs, assign, simple, modifier, stmt, line, block, elsif, otherwise, parens_of, list_of, call_of_args, index_of, braces_of, doblock_of, iff_of, opened}
-use Rattle.vt_parse.proofs.WordSets.{includes, disjoint, included, by_room}
-use Rattle.vt_parse.proofs.Laws.{word_piece, among_piece, map_piece}
-use Rattle.vt_parse.proofs.Pieces.{has_room, brackets, arg_piece, args_maybe, args_piece, block_maybe, block_where_maybe, braces_maybe, braces_rest, call_braces, call_maybe, closed_args, closed_block, closed_index, closed_list, closed_parens, comparison_maybe, cond_piece, disj_piece, doblock_rest, dot_piece, dot_rest, elsif_block, elsif_piece, elsif_rest, elsifs_maybe, expr_piece, formed_piece, group_piece, iff_arms, iff_block, iff_end, iff_newline, iff_rest, items_maybe, items_piece, labelled_piece, led_piece, line_piece, lines_maybe, literal_piece, maybe_stmt, modified_maybe, modifier_piece, more_args_maybe, more_items_maybe, named_piece, negated_piece, newline_block, next_arg_piece, next_item_piece, otherwise_maybe, otherwise_piece, params_maybe, part_piece, parts_maybe, plain_piece, plain_simple_piece, postfix_piece, primary_piece, rhs_piece, set_piece, signed_piece, simple_piece, stmt_piece, sum_piece, value_piece}
+use Rattle.vt_grammar.specs.Trees.{arm_tree, form_tree, stmt_tree, gathered, no_arguments, present, takes_block, wrapped}
+use Rattle.vt_grammar.specs.Grammar.{is_literal, is_paren_open, is_list_open, is_sign, is_condition, is_set, is_comp_op, named, primary, dot, part, after_part, parts_after, postfix, signed, unary, link, chain, term, sum, comp, conj, disj, negated, negation, expr, labelled_arg, plain_arg, arg, next_arg, labels_begun, has_label, args, next_item, items, command, block_where, rhs, assign, simple, modifier, stmt, line, block, elsif, otherwise, parens_of, list_of, call_of_args, index_of, braces_of, doblock_of, iff_of, opened}
+use Rattle.vt_grammar.proofs.WordSets.{includes, disjoint, included, by_room}
+use Rattle.vt_grammar.proofs.Laws.{word_piece, among_piece, map_piece}
+use Rattle.vt_grammar.proofs.Pieces.{has_room, brackets, arg_piece, args_maybe, args_piece, block_maybe, block_where_maybe, braces_maybe, braces_rest, call_braces, call_maybe, closed_args, closed_block, closed_index, closed_list, closed_parens, comparison_maybe, cond_piece, disj_piece, doblock_rest, dot_piece, dot_rest, elsif_block, elsif_piece, elsif_rest, elsifs_maybe, expr_piece, formed_piece, group_piece, iff_arms, iff_block, iff_end, iff_newline, iff_rest, items_maybe, items_piece, labelled_piece, led_piece, line_piece, lines_maybe, literal_piece, maybe_stmt, modified_maybe, modifier_piece, more_args_maybe, more_items_maybe, named_piece, negated_piece, newline_block, next_arg_piece, next_item_piece, otherwise_maybe, otherwise_piece, params_maybe, part_piece, parts_maybe, plain_piece, plain_simple_piece, postfix_piece, primary_piece, rhs_piece, set_piece, signed_piece, simple_piece, stmt_piece, sum_piece, value_piece}
 use Rattle.vt_parse.proofs.LevelLaws.{below_piece, level_link, links_maybe, level_apart, class_read, class_stuck, class_peeked, labels_ok, labels_err, no_labels_ok, no_labels_err, taken_ok, taken_err, below_is}
-use Rattle.vt_parse.proofs.Exact.{exacts, link_exact, args_exact, next_arg_exact, next_item_exact, items_exact, modifier_exact, stmt_exact, line_exact, elsif_exact, otherwise_exact}
-use Rattle.vt_parse.proofs.Wraps.{wraps_within}
+use Rattle.vt_grammar.proofs.Exact.{exacts, link_exact, args_exact, next_arg_exact, next_item_exact, items_exact, modifier_exact, stmt_exact, line_exact, elsif_exact, otherwise_exact}
+use Rattle.vt_grammar.proofs.Wraps.{wraps_within}
 use Rattle.vt_parse.proofs.Openings.{parens_none, parens_ok, parens_err, list_none, list_ok, list_err, call_none, call_ok, call_err, index_none, index_ok, index_err, braces_none, braces_ok, braces_err, doblock_none, doblock_ok, doblock_err, iff_none, iff_ok, iff_err}
 use Rattle.vt_parse.proofs.Decisions.{led_ok, led_err, cond_command_ok, cond_command_err, cond_expr_ok, cond_expr_err, assign_ok, assign_err, value_ok, value_err}
 use Rattle.vt_parse.proofs.Gathering.{gathers_one, gathers_ok, gathers_err, from_one, from_ok, from_err, more_items_step, more_lines_step, more_args_step, gathered_step, present_append}
 use Rattle.vt_parse.proofs.Taken.{part_moved, part_err, part_one, part_cold, comma_cold, labels_are, labels_are_stuck, takes_are, takes_are_stuck, not_taken}
-use Rattle.vt_parse.proofs.Rules.{exit, tail, made, valued, shorter, both_read, second_stuck, first_stuck, by_read, by_stuck, by_first, map_read, map_stuck, unmap_read, unmap_stuck, left_ok, left_err, right_ok, right_err, moved_on, some_ok, some_err, none_ok, loop_one, loop_ok, loop_err, line_ok, line_err}
+use Rattle.vt_parse.proofs.Rules.{exit, tail, made, maps_tail, maps_ok, maps_err, branches_value, valued, shorter, both_read, second_stuck, first_stuck, by_read, by_stuck, by_first, map_read, map_stuck, unmap_read, unmap_stuck, left_ok, left_err, right_ok, right_err, moved_on, some_ok, some_err, none_ok, loop_one, loop_ok, loop_err, line_ok, line_err}
 use Rattle.vt_parse.proofs.parser.Parser.+parser.Goals as goal
 
 pub parens-returns-then-room-eq0 : goal.parens-returns-then-room-eq0
@@ -36,22 +37,24 @@ parens-returns-in_err-inner t c =
     let some : c.args.room ≡ suc (c.args.room - 1) = omega arith in
     exit _ _ _ _ _ _ _ c.from_residual-in_err-inner.ensures.1 (λ h. parens_err c.args.room (c.args.room - 1) some (map_stuck (second_stuck (among_piece is_paren_open).law (closed_parens (opened (c.args.room - 1)) _ (brackets (c.args.room - 1))).law refl c.in_ok-expect_class.ensures.token (first_stuck (cond_piece (opened (c.args.room - 1)) _ (brackets (c.args.room - 1))).law (word_piece words.ParenClose).law refl (h))))) c.in_err-inner.ensures
 
-pub parens-returns-in_err-expect : goal.parens-returns-in_err-expect
+pub parens-returns-in_err-inner-2 : goal.parens-returns-in_err-inner-2
 unfolding parens_of
-parens-returns-in_err-expect t c =
+parens-returns-in_err-inner-2 t c =
     let some : c.args.room ≡ suc (c.args.room - 1) = omega arith in
-    exit _ _ _ _ _ _ _ c.from_residual-in_err-expect.ensures.1 (λ h. parens_err c.args.room (c.args.room - 1) some (map_stuck (second_stuck (among_piece is_paren_open).law (closed_parens (opened (c.args.room - 1)) _ (brackets (c.args.room - 1))).law refl c.in_ok-expect_class.ensures.token (second_stuck (cond_piece (opened (c.args.room - 1)) _ (brackets (c.args.room - 1))).law (word_piece words.ParenClose).law refl c.in_ok-inner.ensures (h))))) c.in_err-expect.ensures
+    exit _ _ _ _ _ _ _ c.from_residual-in_err-inner-2.ensures.1 (λ h. parens_err c.args.room (c.args.room - 1) some (map_stuck (second_stuck (among_piece is_paren_open).law (closed_parens (opened (c.args.room - 1)) _ (brackets (c.args.room - 1))).law refl c.in_ok-expect_class.ensures.token (second_stuck (cond_piece (opened (c.args.room - 1)) _ (brackets (c.args.room - 1))).law (word_piece words.ParenClose).law refl c.in_ok-inner.ensures (unmap_stuck h))))) c.in_err-inner-2.ensures
 
 pub parens-returns : goal.parens-returns
 unfolding parens_of
 parens-returns t c =
     let some : c.args.room ≡ suc (c.args.room - 1) = omega arith in
-    valued c.wrapped.ensures (parens_ok c.args.room (c.args.room - 1) some (map_read (both_read (among_piece is_paren_open).law (closed_parens (opened (c.args.room - 1)) _ (brackets (c.args.room - 1))).law refl c.in_ok-expect_class.ensures.token (both_read (cond_piece (opened (c.args.room - 1)) _ (brackets (c.args.room - 1))).law (word_piece words.ParenClose).law refl c.in_ok-inner.ensures (c.in_ok-expect.ensures)))))
+    let closed = unmap_read c.in_ok-inner-2.ensures in
+    valued (c.wrapped.ensures ∙ ap wrapped closed.2) (parens_ok c.args.room (c.args.room - 1) some (map_read (both_read (among_piece is_paren_open).law (closed_parens (opened (c.args.room - 1)) _ (brackets (c.args.room - 1))).law refl c.in_ok-expect_class.ensures.token (both_read (cond_piece (opened (c.args.room - 1)) _ (brackets (c.args.room - 1))).law (word_piece words.ParenClose).law refl c.in_ok-inner.ensures closed.1))))
 
 pub parens-wrapped-requires : goal.parens-wrapped-requires
 parens-wrapped-requires t c =
     let some : c.args.room ≡ suc (c.args.room - 1) = omega arith in
-    omega (arith, wraps_within (c.args.room - 1) _ _ c.in_ok-inner.ensures.is_read)
+    let same = ap (λ e. (out-Expr e).wraps) (unmap_read c.in_ok-inner-2.ensures).2 in
+    omega (arith, same, wraps_within (c.args.room - 1) _ _ c.in_ok-inner.ensures.is_read)
 
 pub list-returns-then-room-eq0 : goal.list-returns-then-room-eq0
 list-returns-then-room-eq0 t c =
@@ -125,17 +128,11 @@ index-returns-in_err-at t c =
     let some : c.args.room ≡ suc (c.args.room - 1) = omega arith in
     exit _ _ _ _ _ _ _ c.from_residual-in_err-at.ensures.1 (λ h. index_err c.args.room (c.args.room - 1) some (map_stuck (second_stuck (word_piece words.IndexOpen).law (closed_index (opened (c.args.room - 1)) _ (brackets (c.args.room - 1))).law refl c.in_ok-expect.ensures (first_stuck (expr_piece (opened (c.args.room - 1)) _ (brackets (c.args.room - 1))).law (word_piece words.ListClose).law refl (h))))) c.in_err-at.ensures
 
-pub index-returns-in_err-expect-2 : goal.index-returns-in_err-expect-2
-unfolding index_of
-index-returns-in_err-expect-2 t c =
-    let some : c.args.room ≡ suc (c.args.room - 1) = omega arith in
-    exit _ _ _ _ _ _ _ c.from_residual-in_err-expect-2.ensures.1 (λ h. index_err c.args.room (c.args.room - 1) some (map_stuck (second_stuck (word_piece words.IndexOpen).law (closed_index (opened (c.args.room - 1)) _ (brackets (c.args.room - 1))).law refl c.in_ok-expect.ensures (second_stuck (expr_piece (opened (c.args.room - 1)) _ (brackets (c.args.room - 1))).law (word_piece words.ListClose).law refl c.in_ok-at.ensures (h))))) c.in_err-expect-2.ensures
-
 pub index-returns : goal.index-returns
 unfolding index_of
 index-returns t c =
     let some : c.args.room ≡ suc (c.args.room - 1) = omega arith in
-    index_ok c.args.room (c.args.room - 1) some (map_read (both_read (word_piece words.IndexOpen).law (closed_index (opened (c.args.room - 1)) _ (brackets (c.args.room - 1))).law refl c.in_ok-expect.ensures (both_read (expr_piece (opened (c.args.room - 1)) _ (brackets (c.args.room - 1))).law (word_piece words.ListClose).law refl c.in_ok-at.ensures (c.in_ok-expect-2.ensures))))
+    tail _ _ _ _ _ _ (λ v h. let closed = unmap_read h in valued closed.2 (index_ok c.args.room (c.args.room - 1) some (map_read (both_read (word_piece words.IndexOpen).law (closed_index (opened (c.args.room - 1)) _ (brackets (c.args.room - 1))).law refl c.in_ok-expect.ensures (both_read (expr_piece (opened (c.args.room - 1)) _ (brackets (c.args.room - 1))).law (word_piece words.ListClose).law refl c.in_ok-at.ensures closed.1))))) (λ h. (index_err c.args.room (c.args.room - 1) some (map_stuck (second_stuck (word_piece words.IndexOpen).law (closed_index (opened (c.args.room - 1)) _ (brackets (c.args.room - 1))).law refl c.in_ok-expect.ensures (second_stuck (expr_piece (opened (c.args.room - 1)) _ (brackets (c.args.room - 1))).law (word_piece words.ListClose).law refl c.in_ok-at.ensures (unmap_stuck h)))))) c.followed.ensures
 
 pub braces-returns-then-room-eq0 : goal.braces-returns-then-room-eq0
 braces-returns-then-room-eq0 t c =
@@ -227,41 +224,43 @@ iff-returns-in_err-cond t c =
     let some : c.args.room ≡ suc (c.args.room - 1) = omega arith in
     exit _ _ _ _ _ _ _ c.from_residual-in_err-cond.ensures.1 (λ h. iff_err c.args.room (c.args.room - 1) some (map_stuck (second_stuck (among_piece is_condition).law (iff_rest (opened (c.args.room - 1)) _ (brackets (c.args.room - 1))).law refl c.in_ok-opening.ensures.token (first_stuck (cond_piece (opened (c.args.room - 1)) _ (brackets (c.args.room - 1))).law (iff_newline (opened (c.args.room - 1)) _ (brackets (c.args.room - 1))).law refl (h))))) c.in_err-cond.ensures
 
-pub iff-returns-in_err-expect : goal.iff-returns-in_err-expect
+pub iff-returns-in_err-cond-2 : goal.iff-returns-in_err-cond-2
 unfolding iff_of
-iff-returns-in_err-expect t c =
+iff-returns-in_err-cond-2 t c =
     let some : c.args.room ≡ suc (c.args.room - 1) = omega arith in
-    exit _ _ _ _ _ _ _ c.from_residual-in_err-expect.ensures.1 (λ h. iff_err c.args.room (c.args.room - 1) some (map_stuck (second_stuck (among_piece is_condition).law (iff_rest (opened (c.args.room - 1)) _ (brackets (c.args.room - 1))).law refl c.in_ok-opening.ensures.token (second_stuck (cond_piece (opened (c.args.room - 1)) _ (brackets (c.args.room - 1))).law (iff_newline (opened (c.args.room - 1)) _ (brackets (c.args.room - 1))).law refl c.in_ok-cond.ensures (first_stuck (word_piece words.Newline).law (iff_block (opened (c.args.room - 1)) _ (brackets (c.args.room - 1))).law refl (h)))))) c.in_err-expect.ensures
+    exit _ _ _ _ _ _ _ c.from_residual-in_err-cond-2.ensures.1 (λ h. (iff_err c.args.room (c.args.room - 1) some (map_stuck (second_stuck (among_piece is_condition).law (iff_rest (opened (c.args.room - 1)) _ (brackets (c.args.room - 1))).law refl c.in_ok-opening.ensures.token (second_stuck (cond_piece (opened (c.args.room - 1)) _ (brackets (c.args.room - 1))).law (iff_newline (opened (c.args.room - 1)) _ (brackets (c.args.room - 1))).law refl c.in_ok-cond.ensures (first_stuck (word_piece words.Newline).law (iff_block (opened (c.args.room - 1)) _ (brackets (c.args.room - 1))).law refl (unmap_stuck h))))))) c.in_err-cond-2.ensures
 
-pub iff-returns-in_err-stmts : goal.iff-returns-in_err-stmts
+pub iff-returns-in_err-first : goal.iff-returns-in_err-first
 unfolding iff_of
-iff-returns-in_err-stmts t c =
+iff-returns-in_err-first t c =
     let some : c.args.room ≡ suc (c.args.room - 1) = omega arith in
-    exit _ _ _ _ _ _ _ c.from_residual-in_err-stmts.ensures.1 (λ h. iff_err c.args.room (c.args.room - 1) some (map_stuck (second_stuck (among_piece is_condition).law (iff_rest (opened (c.args.room - 1)) _ (brackets (c.args.room - 1))).law refl c.in_ok-opening.ensures.token (second_stuck (cond_piece (opened (c.args.room - 1)) _ (brackets (c.args.room - 1))).law (iff_newline (opened (c.args.room - 1)) _ (brackets (c.args.room - 1))).law refl c.in_ok-cond.ensures (second_stuck (word_piece words.Newline).law (iff_block (opened (c.args.room - 1)) _ (brackets (c.args.room - 1))).law refl c.in_ok-expect.ensures (first_stuck (block_maybe (opened (c.args.room - 1)) _ (brackets (c.args.room - 1))) (iff_arms (opened (c.args.room - 1)) _ (brackets (c.args.room - 1))).law refl (h))))))) c.in_err-stmts.ensures
-
-pub iff-returns-in_err-more : goal.iff-returns-in_err-more
-unfolding iff_of
-iff-returns-in_err-more t c =
-    let some : c.args.room ≡ suc (c.args.room - 1) = omega arith in
-    exit _ _ _ _ _ _ _ c.from_residual-in_err-more.ensures.1 (λ h. iff_err c.args.room (c.args.room - 1) some (map_stuck (second_stuck (among_piece is_condition).law (iff_rest (opened (c.args.room - 1)) _ (brackets (c.args.room - 1))).law refl c.in_ok-opening.ensures.token (second_stuck (cond_piece (opened (c.args.room - 1)) _ (brackets (c.args.room - 1))).law (iff_newline (opened (c.args.room - 1)) _ (brackets (c.args.room - 1))).law refl c.in_ok-cond.ensures (second_stuck (word_piece words.Newline).law (iff_block (opened (c.args.room - 1)) _ (brackets (c.args.room - 1))).law refl c.in_ok-expect.ensures (second_stuck (block_maybe (opened (c.args.room - 1)) _ (brackets (c.args.room - 1))) (iff_arms (opened (c.args.room - 1)) _ (brackets (c.args.room - 1))).law refl c.in_ok-stmts.ensures (first_stuck (elsifs_maybe (opened (c.args.room - 1)) _ (brackets (c.args.room - 1))) (iff_end (opened (c.args.room - 1)) _ (brackets (c.args.room - 1))).law refl (h)))))))) c.in_err-more.ensures
-
-pub iff-returns-in_err-other : goal.iff-returns-in_err-other
-unfolding iff_of
-iff-returns-in_err-other t c =
-    let some : c.args.room ≡ suc (c.args.room - 1) = omega arith in
-    exit _ _ _ _ _ _ _ c.from_residual-in_err-other.ensures.1 (λ h. iff_err c.args.room (c.args.room - 1) some (map_stuck (second_stuck (among_piece is_condition).law (iff_rest (opened (c.args.room - 1)) _ (brackets (c.args.room - 1))).law refl c.in_ok-opening.ensures.token (second_stuck (cond_piece (opened (c.args.room - 1)) _ (brackets (c.args.room - 1))).law (iff_newline (opened (c.args.room - 1)) _ (brackets (c.args.room - 1))).law refl c.in_ok-cond.ensures (second_stuck (word_piece words.Newline).law (iff_block (opened (c.args.room - 1)) _ (brackets (c.args.room - 1))).law refl c.in_ok-expect.ensures (second_stuck (block_maybe (opened (c.args.room - 1)) _ (brackets (c.args.room - 1))) (iff_arms (opened (c.args.room - 1)) _ (brackets (c.args.room - 1))).law refl c.in_ok-stmts.ensures (second_stuck (elsifs_maybe (opened (c.args.room - 1)) _ (brackets (c.args.room - 1))) (iff_end (opened (c.args.room - 1)) _ (brackets (c.args.room - 1))).law refl c.in_ok-more.ensures (first_stuck (otherwise_maybe (opened (c.args.room - 1)) _ (brackets (c.args.room - 1))) (word_piece words.End).law refl (h))))))))) c.in_err-other.ensures
-
-pub iff-returns-in_err-expect-2 : goal.iff-returns-in_err-expect-2
-unfolding iff_of
-iff-returns-in_err-expect-2 t c =
-    let some : c.args.room ≡ suc (c.args.room - 1) = omega arith in
-    exit _ _ _ _ _ _ _ c.from_residual-in_err-expect-2.ensures.1 (λ h. iff_err c.args.room (c.args.room - 1) some (map_stuck (second_stuck (among_piece is_condition).law (iff_rest (opened (c.args.room - 1)) _ (brackets (c.args.room - 1))).law refl c.in_ok-opening.ensures.token (second_stuck (cond_piece (opened (c.args.room - 1)) _ (brackets (c.args.room - 1))).law (iff_newline (opened (c.args.room - 1)) _ (brackets (c.args.room - 1))).law refl c.in_ok-cond.ensures (second_stuck (word_piece words.Newline).law (iff_block (opened (c.args.room - 1)) _ (brackets (c.args.room - 1))).law refl c.in_ok-expect.ensures (second_stuck (block_maybe (opened (c.args.room - 1)) _ (brackets (c.args.room - 1))) (iff_arms (opened (c.args.room - 1)) _ (brackets (c.args.room - 1))).law refl c.in_ok-stmts.ensures (second_stuck (elsifs_maybe (opened (c.args.room - 1)) _ (brackets (c.args.room - 1))) (iff_end (opened (c.args.room - 1)) _ (brackets (c.args.room - 1))).law refl c.in_ok-more.ensures (second_stuck (otherwise_maybe (opened (c.args.room - 1)) _ (brackets (c.args.room - 1))) (word_piece words.End).law refl c.in_ok-other.ensures (h))))))))) c.in_err-expect-2.ensures
+    let ended = unmap_read c.in_ok-cond-2.ensures in
+    exit _ _ _ _ _ _ _ c.from_residual-in_err-first.ensures.1 (λ h. (iff_err c.args.room (c.args.room - 1) some (map_stuck (second_stuck (among_piece is_condition).law (iff_rest (opened (c.args.room - 1)) _ (brackets (c.args.room - 1))).law refl c.in_ok-opening.ensures.token (second_stuck (cond_piece (opened (c.args.room - 1)) _ (brackets (c.args.room - 1))).law (iff_newline (opened (c.args.room - 1)) _ (brackets (c.args.room - 1))).law refl c.in_ok-cond.ensures (second_stuck (word_piece words.Newline).law (iff_block (opened (c.args.room - 1)) _ (brackets (c.args.room - 1))).law refl ended.1 (first_stuck (block_maybe (opened (c.args.room - 1)) _ (brackets (c.args.room - 1))) (iff_arms (opened (c.args.room - 1)) _ (brackets (c.args.room - 1))).law refl h))))))) (maps_err _ _ _ _ _ _ c.block-stmts.ensures c.in_err-first.ensures)
 
 pub iff-returns : goal.iff-returns
 unfolding iff_of
 iff-returns t c =
     let some : c.args.room ≡ suc (c.args.room - 1) = omega arith in
-    made _ _ _ _ _ (valued (ap (λ z. simples.Iff (z ∷ c.in_ok-more.more) c.in_ok-other.other) (c.make_arm-first.ensures ∙ ap (λ u. arm_tree u c.in_ok-cond.cond c.in_ok-stmts.stmts) c.is_unless.ensures)) (iff_ok c.args.room (c.args.room - 1) some (map_read (both_read (among_piece is_condition).law (iff_rest (opened (c.args.room - 1)) _ (brackets (c.args.room - 1))).law refl c.in_ok-opening.ensures.token (both_read (cond_piece (opened (c.args.room - 1)) _ (brackets (c.args.room - 1))).law (iff_newline (opened (c.args.room - 1)) _ (brackets (c.args.room - 1))).law refl c.in_ok-cond.ensures (both_read (word_piece words.Newline).law (iff_block (opened (c.args.room - 1)) _ (brackets (c.args.room - 1))).law refl c.in_ok-expect.ensures (both_read (block_maybe (opened (c.args.room - 1)) _ (brackets (c.args.room - 1))) (iff_arms (opened (c.args.room - 1)) _ (brackets (c.args.room - 1))).law refl c.in_ok-stmts.ensures (both_read (elsifs_maybe (opened (c.args.room - 1)) _ (brackets (c.args.room - 1))) (iff_end (opened (c.args.room - 1)) _ (brackets (c.args.room - 1))).law refl c.in_ok-more.ensures (both_read (otherwise_maybe (opened (c.args.room - 1)) _ (brackets (c.args.room - 1))) (word_piece words.End).law refl c.in_ok-other.ensures (c.in_ok-expect-2.ensures)))))))))) c.make_iff.ensures
+    let ended = unmap_read c.in_ok-cond-2.ensures in
+    let read = maps_ok _ _ _ _ _ _ c.block-stmts.ensures c.in_ok-first.ensures in
+    tail _ _ _ _ _ _ (λ v h. let rest = unmap_read h in valued (rest.2 ∙ branches_value _ _ _ c.in_ok-found.ensures read.2 c.is_unless.ensures ended.2) (iff_ok c.args.room (c.args.room - 1) some (map_read (both_read (among_piece is_condition).law (iff_rest (opened (c.args.room - 1)) _ (brackets (c.args.room - 1))).law refl c.in_ok-opening.ensures.token (both_read (cond_piece (opened (c.args.room - 1)) _ (brackets (c.args.room - 1))).law (iff_newline (opened (c.args.room - 1)) _ (brackets (c.args.room - 1))).law refl c.in_ok-cond.ensures (both_read (word_piece words.Newline).law (iff_block (opened (c.args.room - 1)) _ (brackets (c.args.room - 1))).law refl ended.1 (both_read (block_maybe (opened (c.args.room - 1)) _ (brackets (c.args.room - 1))) (iff_arms (opened (c.args.room - 1)) _ (brackets (c.args.room - 1))).law refl read.1 rest.1))))))) (λ h. (iff_err c.args.room (c.args.room - 1) some (map_stuck (second_stuck (among_piece is_condition).law (iff_rest (opened (c.args.room - 1)) _ (brackets (c.args.room - 1))).law refl c.in_ok-opening.ensures.token (second_stuck (cond_piece (opened (c.args.room - 1)) _ (brackets (c.args.room - 1))).law (iff_newline (opened (c.args.room - 1)) _ (brackets (c.args.room - 1))).law refl c.in_ok-cond.ensures (second_stuck (word_piece words.Newline).law (iff_block (opened (c.args.room - 1)) _ (brackets (c.args.room - 1))).law refl ended.1 (second_stuck (block_maybe (opened (c.args.room - 1)) _ (brackets (c.args.room - 1))) (iff_arms (opened (c.args.room - 1)) _ (brackets (c.args.room - 1))).law refl read.1 (unmap_stuck h)))))))) c.branches.ensures
+
+pub branches-returns-in_err-arms : goal.branches-returns-in_err-arms
+branches-returns-in_err-arms t c =
+    exit _ _ _ _ _ _ _ c.from_residual.ensures.1 (λ h. map_stuck (first_stuck (elsifs_maybe (opened c.args.room) _ (brackets c.args.room)) (iff_end (opened c.args.room) _ (brackets c.args.room)).law refl (unmap_stuck h))) c.in_err-arms.ensures
+
+pub branches-returns-in_err-other : goal.branches-returns-in_err-other
+branches-returns-in_err-other t c =
+    exit _ _ _ _ _ _ _ c.from_residual-in_err-other.ensures.1 (λ h. map_stuck (second_stuck (elsifs_maybe (opened c.args.room) _ (brackets c.args.room)) (iff_end (opened c.args.room) _ (brackets c.args.room)).law refl (unmap_read c.in_ok-arms.ensures).1 (first_stuck (otherwise_maybe (opened c.args.room) _ (brackets c.args.room)) (word_piece words.End).law refl h))) c.in_err-other.ensures
+
+pub branches-returns-in_err-expect : goal.branches-returns-in_err-expect
+branches-returns-in_err-expect t c =
+    exit _ _ _ _ _ _ _ c.from_residual-in_err-expect.ensures.1 (λ h. map_stuck (second_stuck (elsifs_maybe (opened c.args.room) _ (brackets c.args.room)) (iff_end (opened c.args.room) _ (brackets c.args.room)).law refl (unmap_read c.in_ok-arms.ensures).1 (second_stuck (otherwise_maybe (opened c.args.room) _ (brackets c.args.room)) (word_piece words.End).law refl c.in_ok-other.ensures h))) c.in_err-expect.ensures
+
+pub branches-returns : goal.branches-returns
+branches-returns t c =
+    let read = unmap_read c.in_ok-arms.ensures in
+    valued (ap (λ z. simples.Iff z c.in_ok-other.other) read.2) (map_read (both_read (elsifs_maybe (opened c.args.room) _ (brackets c.args.room)) (iff_end (opened c.args.room) _ (brackets c.args.room)).law refl read.1 (both_read (otherwise_maybe (opened c.args.room) _ (brackets c.args.room)) (word_piece words.End).law refl c.in_ok-other.ensures c.in_ok-expect.ensures)))
 
 pub named-returns-in_err-name : goal.named-returns-in_err-name
 unfolding named
@@ -832,15 +831,10 @@ unfolding stmt
 stmt-returns-in_err-simple t c =
     exit _ _ _ _ _ _ _ c.from_residual.ensures.1 (λ h. map_stuck (line_err (map_stuck (first_stuck (simple_piece (opened c.args.room) _ (brackets c.args.room)).law (modified_maybe (opened c.args.room) _ (brackets c.args.room)) refl h)))) c.in_err-simple.ensures
 
-pub stmt-returns-in_err-modifier : goal.stmt-returns-in_err-modifier
-unfolding stmt
-stmt-returns-in_err-modifier t c =
-    exit _ _ _ _ _ _ _ c.from_residual-in_err-modifier.ensures.1 (λ h. map_stuck (line_err (map_stuck (second_stuck (simple_piece (opened c.args.room) _ (brackets c.args.room)).law (modified_maybe (opened c.args.room) _ (brackets c.args.room)) refl c.in_ok-simple.ensures h)))) c.in_err-modifier.ensures
-
 pub stmt-returns : goal.stmt-returns
 unfolding stmt
 stmt-returns t c =
-    valued (c.make_stmt.ensures ∙ ap (λ z. stmt_tree (z, form_tree c.in_ok-simple.simple c.in_ok-modifier.modifier)) c.line-line.ensures) (map_read (line_ok (formed_piece (opened c.args.room) _ (brackets c.args.room)).solid (map_read (both_read (simple_piece (opened c.args.room) _ (brackets c.args.room)).law (modified_maybe (opened c.args.room) _ (brackets c.args.room)) refl c.in_ok-simple.ensures c.in_ok-modifier.ensures))))
+    maps_tail _ _ _ _ _ _ _ _ (λ v h. valued (ap (λ z. stmt_tree (z, form_tree c.in_ok-simple.simple v)) c.line-line.ensures) (map_read (line_ok (formed_piece (opened c.args.room) _ (brackets c.args.room)).solid (map_read (both_read (simple_piece (opened c.args.room) _ (brackets c.args.room)).law (modified_maybe (opened c.args.room) _ (brackets c.args.room)) refl c.in_ok-simple.ensures h))))) (λ h. map_stuck (line_err (map_stuck (second_stuck (simple_piece (opened c.args.room) _ (brackets c.args.room)).law (modified_maybe (opened c.args.room) _ (brackets c.args.room)) refl c.in_ok-simple.ensures h)))) c.make_stmt.ensures c.maybe_modifier-modifier.ensures
 
 pub next_line-returns-in_err-expect : goal.next_line-returns-in_err-expect
 unfolding line
@@ -888,24 +882,20 @@ unfolding elsif
 elsif-returns-in_err-cond t c =
     exit _ _ _ _ _ _ _ c.from_residual-in_err-cond.ensures.1 (λ h. map_stuck (second_stuck (word_piece words.Elsif).law (elsif_rest (opened c.args.room) _ (brackets c.args.room)).law refl c.in_ok-expect.ensures (first_stuck (cond_piece (opened c.args.room) _ (brackets c.args.room)).law (elsif_block (opened c.args.room) _ (brackets c.args.room)).law refl (h)))) c.in_err-cond.ensures
 
-pub elsif-returns-in_err-expect-2 : goal.elsif-returns-in_err-expect-2
+pub elsif-returns-in_err-cond-2 : goal.elsif-returns-in_err-cond-2
 unfolding elsif
-elsif-returns-in_err-expect-2 t c =
-    exit _ _ _ _ _ _ _ c.from_residual-in_err-expect-2.ensures.1 (λ h. map_stuck (second_stuck (word_piece words.Elsif).law (elsif_rest (opened c.args.room) _ (brackets c.args.room)).law refl c.in_ok-expect.ensures (second_stuck (cond_piece (opened c.args.room) _ (brackets c.args.room)).law (elsif_block (opened c.args.room) _ (brackets c.args.room)).law refl c.in_ok-cond.ensures (first_stuck (word_piece words.Newline).law (block_maybe (opened c.args.room) _ (brackets c.args.room)) refl (h))))) c.in_err-expect-2.ensures
-
-pub elsif-returns-in_err-stmts : goal.elsif-returns-in_err-stmts
-unfolding elsif
-elsif-returns-in_err-stmts t c =
-    exit _ _ _ _ _ _ _ c.from_residual-in_err-stmts.ensures.1 (λ h. map_stuck (second_stuck (word_piece words.Elsif).law (elsif_rest (opened c.args.room) _ (brackets c.args.room)).law refl c.in_ok-expect.ensures (second_stuck (cond_piece (opened c.args.room) _ (brackets c.args.room)).law (elsif_block (opened c.args.room) _ (brackets c.args.room)).law refl c.in_ok-cond.ensures (second_stuck (word_piece words.Newline).law (block_maybe (opened c.args.room) _ (brackets c.args.room)) refl c.in_ok-expect-2.ensures (h))))) c.in_err-stmts.ensures
+elsif-returns-in_err-cond-2 t c =
+    exit _ _ _ _ _ _ _ c.from_residual-in_err-cond-2.ensures.1 (λ h. map_stuck (second_stuck (word_piece words.Elsif).law (elsif_rest (opened c.args.room) _ (brackets c.args.room)).law refl c.in_ok-expect.ensures (second_stuck (cond_piece (opened c.args.room) _ (brackets c.args.room)).law (elsif_block (opened c.args.room) _ (brackets c.args.room)).law refl c.in_ok-cond.ensures (first_stuck (word_piece words.Newline).law (block_maybe (opened c.args.room) _ (brackets c.args.room)) refl (unmap_stuck h))))) c.in_err-cond-2.ensures
 
 pub elsif-returns : goal.elsif-returns
 unfolding elsif
 elsif-returns t c =
-    valued c.make_arm.ensures (map_read (both_read (word_piece words.Elsif).law (elsif_rest (opened c.args.room) _ (brackets c.args.room)).law refl c.in_ok-expect.ensures (both_read (cond_piece (opened c.args.room) _ (brackets c.args.room)).law (elsif_block (opened c.args.room) _ (brackets c.args.room)).law refl c.in_ok-cond.ensures (both_read (word_piece words.Newline).law (block_maybe (opened c.args.room) _ (brackets c.args.room)) refl c.in_ok-expect-2.ensures (c.in_ok-stmts.ensures)))))
+    let ended = unmap_read c.in_ok-cond-2.ensures in
+    maps_tail _ _ _ _ _ _ _ _ (λ v h. valued (ap (λ z. arm_tree false z v) ended.2) (map_read (both_read (word_piece words.Elsif).law (elsif_rest (opened c.args.room) _ (brackets c.args.room)).law refl c.in_ok-expect.ensures (both_read (cond_piece (opened c.args.room) _ (brackets c.args.room)).law (elsif_block (opened c.args.room) _ (brackets c.args.room)).law refl c.in_ok-cond.ensures (both_read (word_piece words.Newline).law (block_maybe (opened c.args.room) _ (brackets c.args.room)) refl ended.1 h))))) (λ h. map_stuck (second_stuck (word_piece words.Elsif).law (elsif_rest (opened c.args.room) _ (brackets c.args.room)).law refl c.in_ok-expect.ensures (second_stuck (cond_piece (opened c.args.room) _ (brackets c.args.room)).law (elsif_block (opened c.args.room) _ (brackets c.args.room)).law refl c.in_ok-cond.ensures (second_stuck (word_piece words.Newline).law (block_maybe (opened c.args.room) _ (brackets c.args.room)) refl ended.1 h)))) c.make_arm.ensures c.block-stmts.ensures
 
 pub elsifs-returns-in_err-arm : goal.elsifs-returns-in_err-arm
 elsifs-returns-in_err-arm t c =
-    exit _ _ _ _ _ _ _ c.from_residual.ensures.1 (λ h. loop_err (elsif_piece (opened c.args.room) _ (brackets c.args.room)) refl (elsif_exact (opened c.args.room) _ (exacts c.args.room)) c.arms.invariant (sym c.at.ensures ∙ c.arms-test.true) h) c.in_err-arm.ensures
+    exit _ _ _ _ _ _ _ c.from_residual.ensures.1 (λ h. gathers_err (elsif_piece (opened c.args.room) _ (brackets c.args.room)) refl (elsif_exact (opened c.args.room) _ (exacts c.args.room)) c.arms.invariant (sym c.at.ensures ∙ c.arms-test.true) h) c.in_err-arm.ensures
 
 pub elsifs-arms-smaller : goal.elsifs-arms-smaller
 elsifs-arms-smaller t c =
@@ -913,12 +903,12 @@ elsifs-arms-smaller t c =
 
 pub elsifs-arms-preserved : goal.elsifs-arms-preserved
 elsifs-arms-preserved t c =
-    let grown : c.push.new.self ≡ c.arms.found ++ c.in_ok-arm.arm ∷ [] = c.in_ok-push.ensures.ok in
-    rw grown (loop_one (elsif_piece (opened c.args.room) _ (brackets c.args.room)) refl c.arms.invariant c.in_ok-arm.ensures)
+    let grown : c.push.new.self ≡ c.arms.all ++ c.in_ok-arm.arm ∷ [] = c.in_ok-push.ensures.ok in
+    rw grown (gathers_one (elsif_piece (opened c.args.room) _ (brackets c.args.room)) refl _ (λ vs e. more_items_step _ vs _ _ e) c.arms.invariant c.in_ok-arm.ensures)
 
 pub elsifs-returns : goal.elsifs-returns
 elsifs-returns t c =
-    loop_ok (elsif_piece (opened c.args.room) _ (brackets c.args.room)) refl c.arms.invariant (sym c.at.ensures ∙ c.arms-test.false)
+    gathers_ok (elsif_piece (opened c.args.room) _ (brackets c.args.room)) refl c.arms.invariant (sym c.at.ensures ∙ c.arms-test.false)
 
 pub otherwise-returns-in_err-expect : goal.otherwise-returns-in_err-expect
 unfolding otherwise

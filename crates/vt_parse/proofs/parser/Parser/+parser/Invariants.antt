@@ -1,10 +1,10 @@
 use Rattle.std.proofs.Common.{ℕ, ◌+◌, ◌*◌, ◌++◌, length}
 use Rattle.vt_tree.specs.declared.expression.ChainKind.{ChainKind}
 use Rattle.vt_tree.specs.declared.expression.ChainKind.TheVariants as chains
-use Rattle.vt_parse.specs.Form.{many}
+use Rattle.vt_grammar.specs.Form.{many}
 use Rattle.vt_parse.specs.Levels.{below, ops_of}
-use Rattle.vt_parse.specs.Trees.{gathered, present, with_parts}
-use Rattle.vt_parse.specs.Grammar.{after_part, elsif, labels_begun, line, link, next_arg, next_item, opened, part}
+use Rattle.vt_grammar.specs.Trees.{gathered, present, with_parts}
+use Rattle.vt_grammar.specs.Grammar.{after_part, elsif, labels_begun, line, link, next_arg, next_item, opened, part}
 use Rattle.vt_parse.proofs.Loops.{Continues}
 use Rattle.vt_parse.proofs.Gathering.{Gathers, GathersFrom}
 use Rattle.vt_parse.proofs.parser.Parser.+parser.Given as goal
@@ -174,6 +174,9 @@ decreases-elsif l = 100 * l.room + (61)
 abbrev pub decreases-elsifs : goal.decreases-elsifs
 decreases-elsifs l = 100 * l.room + (62)
 
+abbrev pub decreases-branches : goal.decreases-branches
+decreases-branches l = 100 * l.room + (63)
+
 abbrev pub decreases-otherwise : goal.decreases-otherwise
 decreases-otherwise l = 100 * l.room + (61)
 
@@ -211,7 +214,7 @@ abbrev pub decreases-lines-lines : goal.decreases-lines-lines
 decreases-lines-lines l = length l.self
 
 abbrev pub invariant-elsifs-arms : goal.invariant-elsifs-arms
-invariant-elsifs-arms l = Continues (many (elsif (opened l.room))) l.initial.self l.self l.found
+invariant-elsifs-arms l = Gathers (λ vs. l.initial.all ++ vs) (elsif (opened l.room)) l.initial.self l.self l.all
 
 abbrev pub decreases-elsifs-arms : goal.decreases-elsifs-arms
 decreases-elsifs-arms l = length l.self

@@ -1,5 +1,5 @@
-use Rattle.vt_parse.specs.Values.{literal_of}
-use Rattle.vt_parse.specs.Grammar.{literal}
+use Rattle.vt_grammar.specs.Values.{literal_of}
+use Rattle.vt_grammar.specs.Grammar.{literal}
 use Rattle.vt_parse.proofs.Rules.{exit, made, map_read, map_stuck}
 use Rattle.vt_parse.proofs.parser.Parser.literal.Goals as goal
 

@@ -1,9 +1,9 @@
 use Rattle.std.proofs.Common.{sym, ◌∙◌}
-use Rattle.vt_parse.specs.declared.words.Word.TheVariants as words
-use Rattle.vt_parse.specs.Sets.{just}
-use Rattle.vt_parse.proofs.WordSets.{included}
-use Rattle.vt_parse.proofs.Pieces.{params_piece}
-use Rattle.vt_parse.proofs.Exact.{params_exact}
+use Rattle.vt_grammar.specs.declared.words.Word.TheVariants as words
+use Rattle.vt_grammar.specs.Sets.{just}
+use Rattle.vt_grammar.proofs.WordSets.{included}
+use Rattle.vt_grammar.proofs.Pieces.{params_piece}
+use Rattle.vt_grammar.proofs.Exact.{params_exact}
 use Rattle.vt_parse.proofs.Rules.{exit, moved_on, some_ok, some_err, none_ok}
 use Rattle.vt_parse.proofs.parser.Parser.maybe_params.Goals as goal
 

@@ -1,7 +1,7 @@
 use Rattle.std.proofs.Common.{◌≡◌, [], ◌∷◌, ◌++◌, refl, sym, ◌∙◌}
 use Rattle.vt_parse.specs.Parses.{seen}
-use Rattle.vt_parse.proofs.Pieces.{next_param_piece}
-use Rattle.vt_parse.proofs.Exact.{next_param_exact}
+use Rattle.vt_grammar.proofs.Pieces.{next_param_piece}
+use Rattle.vt_grammar.proofs.Exact.{next_param_exact}
 use Rattle.vt_parse.proofs.Gathering.{gathers_one, gathers_ok, gathers_err, more_names_step}
 use Rattle.vt_parse.proofs.Rules.{exit, shorter}
 use Rattle.vt_parse.proofs.parser.Parser.more_params.Goals as goal

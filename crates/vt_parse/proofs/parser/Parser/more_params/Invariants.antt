@@ -1,5 +1,5 @@
 use Rattle.std.proofs.Common.{◌++◌, length}
-use Rattle.vt_parse.specs.Grammar.{names_of, next_param}
+use Rattle.vt_grammar.specs.Grammar.{names_of, next_param}
 use Rattle.vt_parse.proofs.Gathering.{Gathers}
 use Rattle.vt_parse.proofs.parser.Parser.more_params.Given as goal
 

@@ -1,8 +1,8 @@
 use Rattle.std.proofs.Common.{refl}
-use Rattle.vt_parse.specs.declared.words.Word.TheVariants as words
+use Rattle.vt_grammar.specs.declared.words.Word.TheVariants as words
 use Rattle.vt_parse.specs.Parses.{seen}
-use Rattle.vt_parse.specs.Grammar.{next_param}
-use Rattle.vt_parse.proofs.Laws.{word_piece}
+use Rattle.vt_grammar.specs.Grammar.{next_param}
+use Rattle.vt_grammar.proofs.Laws.{word_piece}
 use Rattle.vt_parse.proofs.Rules.{exit_as, tail_as, both_read, second_stuck, first_stuck, map_read, map_stuck}
 use Rattle.vt_parse.proofs.parser.Parser.next_param.Goals as goal
 

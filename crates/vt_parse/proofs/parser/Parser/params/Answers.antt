@@ -1,8 +1,8 @@
 use Rattle.std.proofs.Common.{◌++◌, refl, ap, ◌∙◌}
-use Rattle.vt_parse.specs.declared.words.Word.TheVariants as words
-use Rattle.vt_parse.specs.Grammar.{names_of, params}
-use Rattle.vt_parse.proofs.Laws.{word_piece}
-use Rattle.vt_parse.proofs.Pieces.{next_params_maybe, params_end, params_rest}
+use Rattle.vt_grammar.specs.declared.words.Word.TheVariants as words
+use Rattle.vt_grammar.specs.Grammar.{names_of, params}
+use Rattle.vt_grammar.proofs.Laws.{word_piece}
+use Rattle.vt_grammar.proofs.Pieces.{next_params_maybe, params_end, params_rest}
 use Rattle.vt_parse.proofs.Rules.{exit, valued, both_read, second_stuck, first_stuck, map_read, map_stuck, unmap_read, unmap_stuck}
 use Rattle.vt_parse.proofs.parser.Parser.params.Goals as goal
 

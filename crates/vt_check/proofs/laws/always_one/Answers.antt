@@ -1,0 +1,5 @@
+use Rattle.vt_check.specs.Judged.{always_one}
+use Rattle.vt_check.proofs.laws.always_one.Goals as goal
+
+pub returns : goal.returns
+returns c = always_one

@@ -1,0 +1,9 @@
+pub mod AnswerLemmas
+pub mod CallExamples
+pub mod KnitLemmas
+pub mod LimitLemmas
+pub mod RotationLemmas
+pub mod SeriesLemmas
+pub mod ShuffleLemmas
+pub mod TruthLemmas
+pub mod TurnLemmas

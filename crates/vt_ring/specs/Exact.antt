@@ -1,0 +1,37 @@
+-- Arithmetic of a call on exact fractions: each operation gives the exact result, or overflow where that does not fit. The project's own.
+use Rattle.std.specs.Prelude.{ℕ, ◌+◌, ◌-◌, ◌/◌, pos, unsigned_abs, int_lt, Bool, cond, Result, Ok, Err}
+use Rattle.vt_frac.specs.Arithmetic.{sum_of, difference_of, product_of, quotient_of}
+use Rattle.vt_frac.specs.Fraction.{Fraction, fits}
+use Rattle.vt_value.specs.declared.fault.FaultKind.{FaultKind}
+use Rattle.vt_value.specs.declared.fault.FaultKind.TheVariants.{Overflow}
+
+-- the fraction, or overflow where a part of it is above 2^63 - 1 in size
+abbrev pub exact : Fraction → Result Fraction FaultKind
+exact f = cond (fits f) (Ok f) (Err Overflow)
+
+abbrev pub exact_sum : Fraction → Fraction → Result Fraction FaultKind
+exact_sum f g = exact (sum_of f g)
+
+abbrev pub exact_difference : Fraction → Fraction → Result Fraction FaultKind
+exact_difference f g = exact (difference_of f g)
+
+abbrev pub exact_product : Fraction → Fraction → Result Fraction FaultKind
+exact_product f g = exact (product_of f g)
+
+-- f / g, for a g that is not 0
+abbrev pub exact_quotient : Fraction → Fraction → Result Fraction FaultKind
+exact_quotient f g = exact (quotient_of f g)
+
+-- the size of a fraction, without its sign
+abbrev pub absolute_of : Fraction → Fraction
+absolute_of f = record { numer = pos (unsigned_abs f.numer); denom = f.denom }
+
+abbrev pub is_positive : Fraction → Bool
+is_positive f = int_lt (pos 0) f.numer
+
+abbrev pub is_negative : Fraction → Bool
+is_negative f = int_lt f.numer (pos 0)
+
+-- the least whole number not below a fraction of at least 0
+abbrev pub rounded_up : Fraction → ℕ
+rounded_up f = (unsigned_abs f.numer + (f.denom - 1)) / f.denom
