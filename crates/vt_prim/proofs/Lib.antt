@@ -1,0 +1,4 @@
+pub mod ClimbLemmas
+pub mod ExactLemmas
+pub mod SortLemmas
+pub mod WordLists
