@@ -1,0 +1,6 @@
+mod CallGrowth
+mod Closures
+mod Composition
+mod Growth
+mod ThreadGrowth
+mod TreeGrowth

@@ -1,0 +1,142 @@
+-- A piece of a thread: the fewest of its next steps that reach a stop. The project's own.
+use Rattle.std.specs.Prelude.{◌≡◌, ℕ, ◌+◌, ◌-◌, ◌^◌, ◌<◌, min, List, [], ◌∷◌, ◌++◌, length, Bool, cond, nat_le, Option, Some, None, IsSome}
+use Rattle.vt_frac.specs.Arithmetic.{sum_of}
+use Rattle.vt_frac.specs.Fraction.{Fraction}
+use Rattle.vt_ring.specs.Exact.{is_positive}
+use Rattle.vt_event.specs.declared.place.Place.{Place}
+use Rattle.vt_run.specs.declared.action.Action.{Action}
+use Rattle.vt_run.specs.declared.action.Action.TheVariants.{Emit, Rest, Read, Wait, Spawn, End}
+use Rattle.vt_run.specs.declared.action.Answer.{Answer}
+use Rattle.vt_run.specs.declared.action.Answer.TheVariants.{Nothing, Found}
+use Rattle.vt_run.specs.declared.piece.Piece.{Piece}
+use Rattle.vt_run.specs.declared.piece.Stop.{Stop}
+use Rattle.vt_run.specs.declared.piece.Stop.TheVariants.{Asks, More, Past, Ended}
+use Rattle.vt_run.specs.declared.start.Start.{Start}
+use Rattle.vt_run.specs.declared.texts.Texts.{Texts}
+use Rattle.vt_run.specs.Actions.{is_past}
+use Rattle.vt_run.specs.Steps.{Step}
+use Rattle.vt_run.specs.Threads.{acts}
+
+-- the stop that an action makes: a read or a wait asks, a rest may reach the horizon, an end is one
+abbrev pub stop_of : Fraction → Option Action → Option Stop
+stop_of until None = None
+stop_of until (Some (Emit event)) = None
+stop_of until (Some (Rest place seconds)) = cond (is_past until (sum_of place.time seconds)) (Some Past) None
+stop_of until (Some (Read place pattern)) = Some Asks
+stop_of until (Some (Wait place pattern)) = Some Asks
+stop_of until (Some (Spawn place start)) = None
+stop_of until (Some (End place reason)) = Some Ended
+
+-- where no action makes a stop, the cost may: it reached the limit
+abbrev pub or_more : Option Stop → Bool → Option Stop
+or_more None full = cond full (Some More) None
+or_more (Some stop) full = Some stop
+
+abbrev pub listed : Option Action → List Action
+listed None = []
+listed (Some action) = action ∷ []
+
+-- the actions of steps, in order
+abbrev pub actions_of : List Step → List Action
+actions_of [] = []
+actions_of (step ∷ steps) = listed step.action ++ actions_of steps
+
+-- the costs of steps, together
+abbrev pub cost_of : List Step → ℕ
+cost_of [] = 0
+cost_of (step ∷ steps) = step.cost + cost_of steps
+
+-- the last step makes the stop, and none before it makes one; `cost` is that of the steps before these
+abbrev pub ends_at : Option Stop → List Step → Stop → Type 0 → Type 0
+ends_at None rest stop later = later
+ends_at (Some made) rest stop later = (made ≡ stop) × (rest ≡ [])
+
+abbrev pub Fewest : Fraction → ℕ → ℕ → List Step → Stop → Type 0
+Fewest until limit cost [] stop = ⊥
+Fewest until limit cost (step ∷ rest) stop =
+    ends_at (or_more (stop_of until step.action) (nat_le limit (cost + step.cost))) rest stop (Fewest until limit (cost + step.cost) rest stop)
+
+-- the next piece of a thread: behind the steps that were done with the old answers the next ones, which are done with the new
+pub record IsPiece (texts : Texts) (start : Start) (old new : List Answer) (before limit : ℕ) (piece : Piece) (now : ℕ) : Type 0 where
+  pub steps : List Step
+  pub here : acts texts start new now ≡ acts texts start old before ++ steps
+  pub count : now ≡ before + length steps
+  pub actions : piece.actions ≡ actions_of steps
+  pub cost : piece.cost ≡ min (cost_of steps) (2 ^ 64 - 1)
+  pub fewest : Fewest start.until limit 0 steps piece.stop
+
+-- Whether a thread goes on, by the stop of its last piece, if there was one: an answer is given exactly where it asks.
+abbrev pub GoesOn : Option Stop → Option Answer → Type 0
+GoesOn None None = Unit {0}
+GoesOn None (Some answer) = ⊥
+GoesOn (Some Asks) None = ⊥
+GoesOn (Some Asks) (Some answer) = Unit {0}
+GoesOn (Some More) None = Unit {0}
+GoesOn (Some stop) answer = ⊥
+
+-- whether a thread stands at the place of a next action, by the stop of its last piece: not where it asks or has ended
+abbrev pub HasNextPlace : Option Stop → Type 0
+HasNextPlace None = Unit {0}
+HasNextPlace (Some More) = Unit {0}
+HasNextPlace (Some Past) = Unit {0}
+HasNextPlace (Some Asks) = ⊥
+HasNextPlace (Some Ended) = ⊥
+
+abbrev pub given : Option Answer → List Answer
+given None = []
+given (Some answer) = answer ∷ []
+
+abbrev pub last_of : Option Action → List Action → Option Action
+last_of action [] = action
+last_of action (next ∷ actions) = last_of (Some next) actions
+
+-- a wait is answered by an event with a path, whose micro step is below 2^31
+abbrev pub IsWaitAnswer : Option Answer → Type 0
+IsWaitAnswer None = ⊥
+IsWaitAnswer (Some Nothing) = ⊥
+IsWaitAnswer (Some (Found event)) = IsSome event.path × (event.place.micro < 2 ^ 31)
+
+-- what an answer has to be, by the last action of the thread
+abbrev pub AnswersLast : Option Action → Option Answer → Type 0
+AnswersLast (Some (Wait place pattern)) answer = IsWaitAnswer answer
+AnswersLast _ answer = Unit {0}
+
+-- the answer is one that the last of these steps may have
+abbrev pub MayBeAnswer : List Step → Option Answer → Type 0
+MayBeAnswer steps answer = AnswersLast (last_of None (actions_of steps)) answer
+
+-- how many answers a thread has left, and the place of its next action
+pub record Stand : Type 0 where
+  pub place : Place
+  pub answers : List Answer
+
+abbrev pub next_step : Place → Place
+next_step place = record place { step = place.step + 1 }
+
+-- a rest of a positive amount moves the place on in time
+abbrev pub place_rested : Fraction → Place → Place
+place_rested seconds place = cond (is_positive seconds) (record place { time = sum_of place.time seconds; micro = 0 }) place
+
+abbrev pub left_of : List Answer → List Answer
+left_of [] = []
+left_of (answer ∷ answers) = answers
+
+-- a wait moves the place to that of the event that answered it, one micro step later
+abbrev pub place_woken : List Answer → Place → Place
+place_woken (Found event ∷ answers) place = record place { time = event.place.time; micro = event.place.micro + 1 }
+place_woken _ place = place
+
+-- where a thread stands after an action
+abbrev pub stand_after : Action → Stand → Stand
+stand_after (Rest place seconds) stand = record { place = next_step (place_rested seconds stand.place); answers = stand.answers }
+stand_after (Read place pattern) stand = record { place = next_step stand.place; answers = left_of stand.answers }
+stand_after (Wait place pattern) stand = record { place = next_step (place_woken stand.answers stand.place); answers = left_of stand.answers }
+stand_after _ stand = record { place = next_step stand.place; answers = stand.answers }
+
+abbrev pub stand_after_all : List Action → Stand → Stand
+stand_after_all [] stand = stand
+stand_after_all (action ∷ actions) stand = stand_after_all actions (stand_after action stand)
+
+-- the place of the next action of a thread after these steps, also where it may never act again
+abbrev pub next_place : Start → List Answer → List Step → Place
+next_place start answers steps = (stand_after_all (actions_of steps) (record { place = start.place; answers = answers })).place

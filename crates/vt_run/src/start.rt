@@ -1,0 +1,42 @@
+ghost use Rattle.std.specs.Prelude.{◌≡◌, IfOk};
+
+use crate::{Role, Settings};
+use std::alloc::Global;
+use vt_event::{BlockRef, Locals, Place};
+use vt_frac::{Frac, NoMemory};
+
+/// How a thread starts. The thread is that of its place.
+#[derive(Debug, Drop)]
+pub struct Start {
+    /// The place of its first action.
+    pub place: Place,
+    /// What it runs: a text, the block of `in_thread`, or that of the `live_loop` that started it.
+    pub block: BlockRef,
+    /// Its locals.
+    pub locals: Locals,
+    /// Its settings.
+    pub settings: Settings,
+    /// The seed of its random stream.
+    pub seed: u64,
+    /// Its part in the session.
+    pub role: Role,
+    /// The horizon, in seconds.
+    pub until: Frac,
+}
+
+impl Start {
+    /// An equal start.
+    pub fn copy(&self, alloc: Global) -> Result<Start, NoMemory>
+        ensures { IfOk result (λ start. start ≡ self.now) }
+    {
+        Ok(Start {
+            place: self.place.copy(alloc)?,
+            block: self.block,
+            locals: self.locals.copy(alloc)?,
+            settings: self.settings.copy(alloc)?,
+            seed: self.seed,
+            role: self.role.copy(alloc)?,
+            until: self.until,
+        })
+    }
+}
