@@ -1,55 +1,109 @@
 -- What a relation between two runs must keep, so that it holds of the runs of every form; and the two environments in which a form is run.
-use Rattle.std.proofs.Common.{◌≤◌, ℕ, zero, suc, ◌-◌, List, [], ◌∷◌, Bool, true, false, cond, Option, Some, None, Result, Ok, Err, arith}
-use Rattle.std.specs.Prelude.{nat_lt, slice_get}
-use Rattle.vt_frac.specs.Fraction.{Fraction}
+use Rattle.std.proofs.Common.{◌≡◌, ◌≤◌, ◌<◌, ℕ, zero, suc, ◌-◌, ◌+◌, List, [], ◌∷◌, length, Bool, true, false, cond, Option, Some, None, Result, Ok, Err, refl, arith}
+use Rattle.std.specs.Prelude.{nat_lt, is_some, IsOk, IsTrue}
+use Rattle.std.specs.List.{AllByRecursion}
+use Rattle.vt_frac.specs.Fraction.{Fraction, IsFraction}
 use Rattle.vt_path.specs.declared.pattern.Segment.{Segment}
+use Rattle.vt_path.specs.Inner.{IsInner}
+use Rattle.vt_path.specs.Pattern.{IsPattern}
+use Rattle.vt_ring.specs.Exact.{exact_sum}
+use Rattle.vt_tree.specs.Forms.{IsName}
 use Rattle.vt_value.specs.declared.fault.FaultKind.{FaultKind}
 use Rattle.vt_value.specs.declared.fault.FaultKind.TheVariants.{TooDeep}
 use Rattle.vt_value.specs.declared.value.Value.{Value}
+use Rattle.vt_value.specs.SymbolName.{is_symbol_name}
 use Rattle.vt_event.specs.declared.place.Place.{Place}
 use Rattle.vt_event.specs.declared.references.BlockRef.{BlockRef}
 use Rattle.vt_event.specs.Event.{EventView}
-use Rattle.vt_run.specs.declared.action.Action.TheVariants.{End, Read}
+use Rattle.vt_event.specs.EventsByKind.{fx_event}
+use Rattle.vt_event.specs.Pairs.{Pairs}
+use Rattle.vt_run.specs.declared.action.Action.TheVariants.{Emit, End}
 use Rattle.vt_run.specs.declared.action.Answer.{Answer}
 use Rattle.vt_run.specs.declared.action.EndReason.{EndReason}
 use Rattle.vt_run.specs.declared.action.EndReason.TheVariants.{Faulted}
+use Rattle.vt_run.specs.declared.role.Role.{Role}
 use Rattle.vt_run.specs.declared.start.Start.{Start}
 use Rattle.vt_run.specs.declared.state.State.{State}
-use Rattle.vt_run.specs.Actions.{answered, emits_all, ends, fails, name_path, or_fails, rests, syncs, tells_end}
+use Rattle.vt_run.specs.declared.texts.Texts.{Texts}
+use Rattle.vt_run.specs.Actions.{acted, emits_all, ends, fails, name_path, or_fails, reads, rests, syncs, tells_end}
+use Rattle.vt_run.specs.Costs.{emit_cost}
 use Rattle.vt_run.specs.Deeds.{Deed, done}
 use Rattle.vt_run.specs.Environment.{Body, Env, Meaning}
-use Rattle.vt_run.specs.Scopes.{enters}
-use Rattle.vt_run.specs.Steps.{Form, Left, Next, Ran, Spot, Step, after, charges, does, gives, halts, step}
-use Rattle.vt_run.specs.Threads.{env_of}
+use Rattle.vt_run.specs.Limits.{ArePairsWithin, IsAnswerWithin, IsPatternWithin, IsRestWithin, IsRoleWithin, IsStartWithin, IsWithin}
+use Rattle.vt_run.specs.Scopes.{BlockMeaning, enters}
+use Rattle.vt_run.specs.Steps.{Form, Left, Next, Ran, Spot, after, charges, does, gives, halts, spends}
+use Rattle.vt_run.specs.ThreadCalls.{spawns}
+use Rattle.vt_run.specs.Threads.{block_of, env_of}
+use Rattle.vt_run.proofs.EventFacts.{ended_told, fault_told, name_path_inner}
+use Rattle.vt_run.proofs.Known.{IsDeed, IsLike, IsStateWithin, IsTold, place_in}
 
--- what a relation between two runs has to keep; the second run has the greater bound, and may have other answers
-pub record Closure (R : ℕ → Ran → Ran → Type 0) (start : Start) (answers answers' : List Answer) : Type 0 where
-  pub less : {n m : ℕ} {a b : Ran} → m ≤ n → R n a b → R m a b
-  pub given : (n : ℕ) (value : Value) (st : State) → R n (gives value st) (gives value st)
-  pub ended : (n : ℕ) (place : Place) (reason : EndReason) → R n (does 1 (End place reason) halts) (does 1 (End place reason) halts)
-  pub bound : (b : Ran) → R 0 halts b
-  pub stepped : {n : ℕ} {a b : Ran} (s : Step) → R n a b → R (suc n) (step s a) (step s b)
-  pub followed : {n : ℕ} (a b : Ran) (k k' : Next) → R n a b → ((l : Left) → R n (k l.value l.state) (k' l.value l.state)) → R n (after a k) (after b k')
-  pub asked : (n : ℕ) (place : Place) (pattern : List Segment) (used : ℕ) (st : State) (go go' : Answer → State → Ran) →
-      ((answer : Answer) (st : State) → R n (go answer st) (go' answer st)) →
-      R (suc n) (does 1 (Read place pattern) (answered (slice_get answers used) st go)) (does 1 (Read place pattern) (answered (slice_get answers' used) st go'))
-  pub synced : (n text turns turns' : ℕ) (body body' : BlockRef → Option Body) (pattern : List Segment) (st : State) →
-      R n (syncs pattern (env_of start text answers turns body) st) (syncs pattern (env_of start text answers' turns' body') st)
-  pub rested : (n text turns turns' : ℕ) (body body' : BlockRef → Option Body) (seconds : Fraction) (st : State) →
-      R n (rests seconds (env_of start text answers turns body) st) (rests seconds (env_of start text answers' turns' body') st)
-
--- the same block, with two meanings that are related; or none
-pub data BodyGrows (R : ℕ → Ran → Ran → Type 0) (n : ℕ) : Option Body → Option Body → Type 0 where
-  neither : BodyGrows R n None None
-  both : (params : List (List ℕ)) (f g : Form) → ((at : Spot) (st : State) → R n (f at st) (g at st)) → BodyGrows R n (Some (record { params = params; run = f })) (Some (record { params = params; run = g }))
-
--- two environments for one evaluation, of which the second has the greater bound
-pub record Two : Type 1 where
-  pub R : ℕ → Ran → Ran → Type 0
+-- One evaluation: the texts, how the thread starts, and the answers of its reads and waits, in two versions. Under L all that it is given is within the limits of the language.
+pub record Evaluation : Type 1 where
+  pub L : Type 0
+  pub texts : Texts
   pub start : Start
   pub answers : List Answer
   pub answers' : List Answer
-  pub has : Closure R start answers answers'
+  pub within : L → IsStartWithin start
+
+-- after an answer: it is used
+abbrev pub answered_state : State → State
+answered_state st = record (acted st) { used = st.used + 1 }
+
+-- after an effect was begun and told
+abbrev pub effected_state : State → State
+effected_state st = record (acted st) { effects = st.effects + 1 }
+
+-- the event of an effect, and what comes next
+abbrev pub effect_step : Start → List ℕ → Pairs → State → Ran → Ran
+effect_step start name options st ran =
+    does (emit_cost (fx_event (place_in start st) name (st.effects + 1) options st.settings.fx)) (Emit (fx_event (place_in start st) name (st.effects + 1) options st.settings.fx)) ran
+
+-- What a relation between two runs from one state has to keep. The second run has the greater bound, and may have other answers.
+pub record Closure (R : ℕ → State → Ran → Ran → Type 0) (e : Evaluation) : Type 0 where
+  pub less : {n m : ℕ} {st : State} {a b : Ran} → m ≤ n → R n st a b → R m st a b
+  pub alike : {n : ℕ} {st other : State} {a b : Ran} → IsLike st other → R n other a b → R n st a b
+  pub given : (n : ℕ) (value : Value) (st : State) → (e.L → IsWithin value) → (e.L → IsStateWithin st) → R n st (gives value st) (gives value st)
+  pub bound : (st : State) (b : Ran) → R 0 st halts b
+  pub spent : {n : ℕ} {st : State} {a b : Ran} (cost : ℕ) → 1 ≤ cost → R n st a b → R (suc n) st (spends cost a) (spends cost b)
+  pub emitted : {n : ℕ} {st : State} {a b : Ran} (event : EventView) → IsTold e.L (place_in e.start st) event → (e.L → IsStateWithin st) →
+      R n (acted st) a b → R (suc n) st (does (emit_cost event) (Emit event) a) (does (emit_cost event) (Emit event) b)
+  pub effected : {n : ℕ} {st : State} {a b : Ran} (name : List ℕ) (options : Pairs) → (e.L → IsTrue (is_symbol_name name)) → (e.L → ArePairsWithin options) → (e.L → IsStateWithin st) →
+      R n (effected_state st) a b → R (suc n) st (effect_step e.start name options st a) (effect_step e.start name options st b)
+  pub ended : (n : ℕ) (st : State) (reason : EndReason) → (e.L → IsStateWithin st) →
+      R n st (does 1 (End (place_in e.start st) reason) halts) (does 1 (End (place_in e.start st) reason) halts)
+  pub followed : {n : ℕ} {st : State} (a b : Ran) (k k' : Next) → R n st a b →
+      ((l : Left) → (e.L → IsWithin l.value) → (e.L → IsStateWithin l.state) → R n l.state (k l.value l.state) (k' l.value l.state)) →
+      R n st (after a k) (after b k')
+  pub asked : (n text turns turns' : ℕ) (body body' : BlockRef → Option Body) (pattern : List Segment) (st : State) (go go' : Answer → State → Ran) →
+      (e.L → IsPatternWithin pattern) → (e.L → IsStateWithin st) →
+      ((answer : Answer) → (e.L → IsAnswerWithin answer) → R n (answered_state st) (go answer (answered_state st)) (go' answer (answered_state st))) →
+      R (suc n) st (reads pattern (env_of e.start text e.answers turns body) st go) (reads pattern (env_of e.start text e.answers' turns' body') st go')
+  pub synced : (n text turns turns' : ℕ) (body body' : BlockRef → Option Body) (pattern : List Segment) (st : State) →
+      (e.L → IsPattern pattern) → (e.L → IsStateWithin st) →
+      R n st (syncs pattern (env_of e.start text e.answers turns body) st) (syncs pattern (env_of e.start text e.answers' turns' body') st)
+  pub rested : (n text turns turns' : ℕ) (body body' : BlockRef → Option Body) (seconds : Fraction) (st : State) →
+      IsOk (exact_sum st.time seconds) → (e.L → IsRestWithin seconds) → (e.L → IsStateWithin st) →
+      R n st (rests seconds (env_of e.start text e.answers turns body) st) (rests seconds (env_of e.start text e.answers' turns' body') st)
+  pub spawned : (n text turns turns' : ℕ) (body body' : BlockRef → Option Body) (role : Role) (block : BlockMeaning) (st : State) →
+      length e.start.place.thread < 32 → (e.L → IsRoleWithin role) → (e.L → IsTrue (is_some (block_of e.texts (record { text = text; block = block.number })))) → (e.L → IsStateWithin st) →
+      R n st (spawns role block (env_of e.start text e.answers turns body) st) (spawns role block (env_of e.start text e.answers' turns' body') st)
+
+-- related from every state in which what the thread holds is within the limits
+abbrev pub SpotGrows : (ℕ → State → Ran → Ran → Type 0) → Type 0 → ℕ → Form → Form → Type 0
+SpotGrows R L n f g = (at : Spot) (st : State) → (L → IsStateWithin st) → R n st (f at st) (g at st)
+
+-- the same block, with two meanings that are related; or none
+pub data BodyGrows (R : ℕ → State → Ran → Ran → Type 0) (L : Type 0) (n : ℕ) : Option Body → Option Body → Type 0 where
+  neither : BodyGrows R L n None None
+  both : (params : List (List ℕ)) (f g : Form) → (L → AllByRecursion IsName params) → SpotGrows R L n f g →
+      BodyGrows R L n (Some (record { params = params; run = f })) (Some (record { params = params; run = g }))
+
+-- two environments for one evaluation, of which the second has the greater bound
+pub record Two : Type 1 where
+  pub R : ℕ → State → Ran → Ran → Type 0
+  pub e : Evaluation
+  pub has : Closure R e
   pub text : ℕ
   pub n : ℕ
   pub turns : ℕ
@@ -58,55 +112,77 @@ pub record Two : Type 1 where
   pub body' : BlockRef → Option Body
   pub enough : n ≤ turns
   pub more : turns ≤ turns'
-  pub bodies : (ref : BlockRef) → BodyGrows R (n - 1) (body ref) (body' ref)
+  pub bodies : (ref : BlockRef) → BodyGrows R e.L (n - 1) (body ref) (body' ref)
 
 abbrev pub low : Two → Env
-low two = env_of two.start two.text two.answers two.turns two.body
+low two = env_of two.e.start two.text two.e.answers two.turns two.body
 
 abbrev pub high : Two → Env
-high two = env_of two.start two.text two.answers' two.turns' two.body'
+high two = env_of two.e.start two.text two.e.answers' two.turns' two.body'
 
 -- related in the two environments, at every spot and from every state
 abbrev pub FormGrows : Two → Meaning → Type 0
-FormGrows two form = (at : Spot) (st : State) → two.R two.n (form (low two) at st) (form (high two) at st)
+FormGrows two form = (at : Spot) (st : State) → (two.e.L → IsStateWithin st) → two.R two.n st (form (low two) at st) (form (high two) at st)
 
 module _ (two : Two) where
-  abbrev R : ℕ → Ran → Ran → Type 0
-  R = two.R
+  pub spends_keeps : {n : ℕ} {st : State} {a b : Ran} (cost : ℕ) → 1 ≤ cost → two.R n st a b → two.R n st (spends cost a) (spends cost b)
+  spends_keeps cost le h = two.has.less (omega arith) (two.has.spent cost le h)
 
-  pub step_keeps : {n : ℕ} {a b : Ran} (s : Step) → two.R n a b → two.R n (step s a) (step s b)
-  step_keeps s h = two.has.less (omega arith) (two.has.stepped s h)
+  pub tick_keeps : {n : ℕ} {st : State} {a b : Ran} → two.R n st a b → two.R n st (spends 1 a) (spends 1 b)
+  tick_keeps h = spends_keeps 1 (omega arith) h
 
-  pub charges_keep : {n : ℕ} {a b : Ran} (size : ℕ) → two.R n a b → two.R n (charges size a) (charges size b)
+  pub emit_keeps : {n : ℕ} {st : State} {a b : Ran} (event : EventView) → IsTold two.e.L (place_in two.e.start st) event → (two.e.L → IsStateWithin st) →
+      two.R n (acted st) a b → two.R n st (does (emit_cost event) (Emit event) a) (does (emit_cost event) (Emit event) b)
+  emit_keeps event told s h = two.has.less (omega arith) (two.has.emitted event told s h)
+
+  pub charges_keep : {n : ℕ} {st : State} {a b : Ran} (size : ℕ) → two.R n st a b → two.R n st (charges size a) (charges size b)
   charges_keep zero h = h
-  charges_keep (suc size) h = step_keeps _ h
+  charges_keep (suc size) h = spends_keeps (suc size) (omega arith) h
 
-  pub cond_keeps : {n : ℕ} (c : Bool) {a a' b b' : Ran} → two.R n a a' → two.R n b b' → two.R n (cond c a b) (cond c a' b')
+  pub cond_keeps : {n : ℕ} {st : State} (c : Bool) {a a' b b' : Ran} → two.R n st a a' → two.R n st b b' → two.R n st (cond c a b) (cond c a' b')
   cond_keeps true g h = g
   cond_keeps false g h = h
 
-  tells_end_keeps : {n : ℕ} (reason : EndReason) (path : Option (List (List ℕ))) (st : State) → two.R n (tells_end path (low two) st (λ st. does 1 (End (record { time = st.time; micro = st.micro; thread = two.start.place.thread; step = st.step }) reason) halts)) (tells_end path (high two) st (λ st. does 1 (End (record { time = st.time; micro = st.micro; thread = two.start.place.thread; step = st.step }) reason) halts))
-  tells_end_keeps reason None st = two.has.ended _ _ reason
-  tells_end_keeps reason (Some path) st = step_keeps _ (two.has.ended _ _ reason)
+  -- the same, where what the test tells is needed
+  pub if_keeps : {n : ℕ} {st : State} (c : Bool) {a a' b b' : Ran} → (c ≡ true → two.R n st a a') → two.R n st b b' → two.R n st (cond c a b) (cond c a' b')
+  if_keeps true g h = g refl
+  if_keeps false g h = h
 
-  pub ends_keep : {n : ℕ} (reason : EndReason) (st : State) → two.R n (ends reason (low two) st) (ends reason (high two) st)
-  ends_keep reason st = tells_end_keeps reason (name_path two.start.role) st
+  tells_end_keeps : {n : ℕ} (reason : EndReason) (path : Option (List (List ℕ))) (st : State) → ((p : List (List ℕ)) → path ≡ Some p → two.e.L → IsInner p) → (two.e.L → IsStateWithin st) →
+      two.R n st (tells_end path (low two) st (λ st. does 1 (End (place_in two.e.start st) reason) halts)) (tells_end path (high two) st (λ st. does 1 (End (place_in two.e.start st) reason) halts))
+  tells_end_keeps reason None st inner s = two.has.ended _ st reason s
+  tells_end_keeps reason (Some path) st inner s =
+      emit_keeps _ (ended_told two.e.L path (place_in two.e.start st) (inner path refl) (λ l. (s l).fraction)) s (two.has.ended _ (acted st) reason s)
 
-  pub fails_keep : {n : ℕ} (kind : FaultKind) (at : Spot) (st : State) → two.R n (fails kind (low two) at st) (fails kind (high two) at st)
-  fails_keep kind at st = step_keeps _ (ends_keep Faulted _)
+  pub ends_keep : {n : ℕ} (reason : EndReason) (st : State) → (two.e.L → IsStateWithin st) → two.R n st (ends reason (low two) st) (ends reason (high two) st)
+  ends_keep reason st s = tells_end_keeps reason (name_path two.e.start.role) st (λ path is l. name_path_inner two.e.start.role path (two.e.within l).role is) s
 
-  pub or_fails_keeps : {n : ℕ} {A : Type 0} (answer : Result A FaultKind) (at : Spot) (st : State) (go go' : A → Ran) → ((x : A) → two.R n (go x) (go' x)) → two.R n (or_fails answer (low two) at st go) (or_fails answer (high two) at st go')
-  or_fails_keeps (Ok x) at st go go' h = h x
-  or_fails_keeps (Err kind) at st go go' h = fails_keep kind at st
+  pub fails_keep : {n : ℕ} (kind : FaultKind) (at : Spot) (st : State) → (two.e.L → IsStateWithin st) → two.R n st (fails kind (low two) at st) (fails kind (high two) at st)
+  fails_keep kind at st s = emit_keeps _ (fault_told two.e.L kind at.line (place_in two.e.start st) (λ l. (s l).fraction)) s (ends_keep Faulted (acted st) s)
 
-  pub enters_keep : {n : ℕ} (at : Spot) (st : State) (go go' : Spot → Ran) → ((at : Spot) → two.R n (go at) (go' at)) → two.R n (enters (low two) at st go) (enters (high two) at st go')
-  enters_keep at st go go' h = cond_keeps (nat_lt at.depth 256) (h _) (fails_keep TooDeep at st)
+  pub or_fails_keeps : {n : ℕ} {A : Type 0} (answer : Result A FaultKind) (at : Spot) (st : State) (go go' : A → Ran) → (two.e.L → IsStateWithin st) →
+      ((x : A) → answer ≡ Ok x → two.R n st (go x) (go' x)) → two.R n st (or_fails answer (low two) at st go) (or_fails answer (high two) at st go')
+  or_fails_keeps (Ok x) at st go go' s h = h x refl
+  or_fails_keeps (Err kind) at st go go' s h = fails_keep kind at st s
 
-  pub emits_all_keep : {n : ℕ} (events : List (Place → EventView)) (st : State) (go go' : State → Ran) → ((st : State) → two.R n (go st) (go' st)) → two.R n (emits_all events (low two) st go) (emits_all events (high two) st go')
-  emits_all_keep [] st go go' h = h st
-  emits_all_keep (event ∷ events) st go go' h = step_keeps _ (emits_all_keep events _ go go' h)
+  pub enters_keep : {n : ℕ} (at : Spot) (st : State) (go go' : Spot → Ran) → (two.e.L → IsStateWithin st) → ((at : Spot) → two.R n st (go at) (go' at)) →
+      two.R n st (enters (low two) at st go) (enters (high two) at st go')
+  enters_keep at st go go' s h = cond_keeps (nat_lt at.depth 256) (h _) (fails_keep TooDeep at st s)
 
-  pub done_keeps : {n : ℕ} (deed : Result Deed FaultKind) (at : Spot) (st : State) → two.R n (done deed (low two) at st) (done deed (high two) at st)
-  done_keeps deed at st =
-      or_fails_keeps deed at st (λ d. emits_all d.events (low two) d.state (gives d.value)) (λ d. emits_all d.events (high two) d.state (gives d.value)) (λ d.
-      emits_all_keep d.events d.state (gives d.value) (gives d.value) (λ st. two.has.given _ d.value st))
+  -- a value where the thread stands alike
+  pub gives_like : {n : ℕ} {st : State} (value : Value) (other : State) → IsLike st other → (two.e.L → IsWithin value) → (two.e.L → IsStateWithin other) →
+      two.R n st (gives value other) (gives value other)
+  gives_like value other is v s = two.has.alike is (two.has.given _ value other v s)
+
+  emits_all_keep : {n : ℕ} (events : List (Place → EventView)) (st : State) (value : Value) → (two.e.L → IsWithin value) → (two.e.L → IsStateWithin st) →
+      AllByRecursion (λ event. (place : Place) → (two.e.L → IsFraction place.time) → IsTold two.e.L place (event place)) events →
+      two.R n st (emits_all events (low two) st (gives value)) (emits_all events (high two) st (gives value))
+  emits_all_keep [] st value v s told = two.has.given _ value st v s
+  emits_all_keep (event ∷ events) st value v s told =
+      emit_keeps (event (place_in two.e.start st)) (told.0 (place_in two.e.start st) (λ l. (s l).fraction)) s (emits_all_keep events (acted st) value v s told.1)
+
+  pub done_keeps : {n : ℕ} (deed : Result Deed FaultKind) (at : Spot) (st : State) → (two.e.L → IsStateWithin st) → ((d : Deed) → deed ≡ Ok d → IsDeed two.e.L st d) →
+      two.R n st (done deed (low two) at st) (done deed (high two) at st)
+  done_keeps deed at st s h =
+      or_fails_keeps deed at st (λ d. emits_all d.events (low two) d.state (gives d.value)) (λ d. emits_all d.events (high two) d.state (gives d.value)) s (λ d is.
+      two.has.alike (h d is).alike (emits_all_keep d.events d.state d.value (h d is).value (h d is).state (h d is).events))

@@ -5,14 +5,20 @@ pub mod Deeds
 pub mod EffectTable
 pub mod Environment
 pub mod FunctionCalls
+pub mod Leads
+pub mod Limits
 pub mod LiveLoops
 pub mod MessageCalls
+pub mod NoteLaws
+pub mod Notes
 pub mod Operators
 pub mod Pieces
 pub mod PlayCalls
 pub mod RenderLimits
 pub mod Scopes
 pub mod SettingCalls
+pub mod StepFacts
+pub mod StepLaws
 pub mod Steps
 pub mod Streams
 pub mod Tempo
@@ -24,3 +30,4 @@ pub mod TickCalls
 pub mod TimeCalls
 pub mod TreeMeaning
 pub mod TurnCalls
+pub mod WellMade

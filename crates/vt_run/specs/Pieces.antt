@@ -90,9 +90,9 @@ abbrev pub last_of : Option Action → List Action → Option Action
 last_of action [] = action
 last_of action (next ∷ actions) = last_of (Some next) actions
 
--- a wait is answered by an event with a path, whose micro step is below 2^31
+-- a wait is answered by an event with a path, whose micro step is below 2^31; after its answer nothing more is asked
 abbrev pub IsWaitAnswer : Option Answer → Type 0
-IsWaitAnswer None = ⊥
+IsWaitAnswer None = Unit {0}
 IsWaitAnswer (Some Nothing) = ⊥
 IsWaitAnswer (Some (Found event)) = IsSome event.path × (event.place.micro < 2 ^ 31)
 

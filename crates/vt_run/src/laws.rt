@@ -1,5 +1,7 @@
-//! The two laws of the meaning of a thread. Each function does nothing; its contract is the law.
+//! The laws of the meaning of a thread, and of what is noted of it. Each function does nothing; its contract is the law.
 
+ghost use Rattle.vt_run.specs.NoteLaws.{PieceLaw};
+ghost use Rattle.vt_run.specs.StepLaws.{AnswersLaw, BlocksLaw, ChildrenLaw, ClosingLaw, CostsLaw, EventsLaw, HorizonLaw, LastLaw, LimitsLaw, NextLaw, NumbersLaw, PiecesAreOne, PlacesLaw, RisingLaw};
 ghost use Rattle.vt_run.specs.ThreadLaws.{PrefixLaw, SequenceLaw};
 
 /// The steps of statements one after another are those of the first ones, followed, where these leave something, by those
@@ -11,4 +13,80 @@ pub fn steps_of_a_sequence()
 /// The list for n steps is a front of the list for more.
 pub fn fewer_steps_are_a_front()
     ensures { PrefixLaw }
+{}
+
+/// The list for n steps has n, or it ends with the last step of the thread: a read or wait without an answer, a wait that
+/// nothing wakes, a rest to the horizon, an end.
+pub fn early_lists_end_with_the_last_step()
+    ensures { ClosingLaw }
+{}
+
+/// Nothing stands behind such a step.
+pub fn last_steps_are_last()
+    ensures { LastLaw }
+{}
+
+/// With further answers the list goes on where it ended.
+pub fn answers_only_extend()
+    ensures { AnswersLaw }
+{}
+
+/// Each step costs at least 1.
+pub fn each_step_costs()
+    ensures { CostsLaw }
+{}
+
+/// Each action stands where its thread stands after the steps before it.
+pub fn actions_stand_in_place()
+    ensures { PlacesLaw }
+{}
+
+/// The j-th action has the number j.
+pub fn actions_are_numbered()
+    ensures { NumbersLaw }
+{}
+
+/// The places of a thread rise strictly.
+pub fn places_rise()
+    ensures { RisingLaw }
+{}
+
+/// No action stands at or past the horizon.
+pub fn actions_stand_below_the_horizon()
+    ensures { HorizonLaw }
+{}
+
+/// The j-th thread that is started has the list of its starter with j added, and starts where its starter stands.
+pub fn children_are_numbered()
+    ensures { ChildrenLaw }
+{}
+
+/// A thread that is started runs a block of the texts.
+pub fn children_run_blocks()
+    ensures { BlocksLaw }
+{}
+
+/// Each event has the fields of its kind, and no call writes at an inner path.
+pub fn events_are_well_made()
+    ensures { EventsLaw }
+{}
+
+/// All that a thread does is within the limits of the language.
+pub fn actions_are_within_limits()
+    ensures { LimitsLaw }
+{}
+
+/// A thread that has not ended has a next piece.
+pub fn threads_have_next_pieces()
+    ensures { NextLaw }
+{}
+
+/// A thread has only one next piece.
+pub fn pieces_are_one()
+    ensures { PiecesAreOne }
+{}
+
+/// Where the new answers change none of the steps that are done, what is noted of a thread is its next piece.
+pub fn noted_steps_are_a_piece()
+    ensures { PieceLaw }
 {}

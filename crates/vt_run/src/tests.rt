@@ -1,5 +1,10 @@
-// Each call that may take memory, once with enough of it; and the limits of the options.
-use crate::{Action, Actions, EndReason, RenderOptions, Role, Settings, Start, Tempo};
+// Each call that may take memory, once with enough of it; the limits of the options; and what is noted of steps.
+ghost use Rattle.std.specs.Prelude.{Some, IfOk};
+ghost use Rattle.vt_run.specs.Notes.{RestFits};
+
+use crate::{
+    Action, Actions, EndReason, Recorder, RenderOptions, Role, Settings, Start, Stop, Tempo,
+};
 use std::alloc::Global;
 use std::test::Fail;
 use vt_event::{BlockRef, FxId, Locals, Options, Place, ThreadId};
@@ -109,5 +114,91 @@ fn options_have_limits(rt: HostRuntime) -> Result<(), Fail> {
             "{workers} {numer}/{denom} {budget}"
         );
     }
+    Ok(())
+}
+
+/// A rest at a place whose time is 1/4.
+fn rest(alloc: Global, seconds: Frac) -> Result<Action, Fail>
+    ensures { IfOk result (λ action. RestFits (Some action)) }
+{
+    let place = start(alloc)?.place;
+    match place.time.add(seconds) {
+        Ok(_) => Ok(Action::Rest { place, seconds }),
+        Err(_) => Err(Fail::from("no time")),
+    }
+}
+
+fn read(alloc: Global) -> Result<Action, Fail>
+    ensures { IfOk result (λ action. RestFits (Some action)) }
+{
+    Ok(Action::Read {
+        place: start(alloc)?.place,
+        pattern: parse_pattern(alloc, b"/cue/*")?,
+    })
+}
+
+#[test]
+fn a_piece_begins_behind_the_steps_that_are_done(rt: HostRuntime) -> Result<(), Fail> {
+    let mut notes = Recorder::new(rt.alloc(), 1, 100, Frac::new(60, 1)?);
+    notes.step(7, Some(read(rt.alloc())?))?;
+    assert_eq!(rt; notes.count(), 0);
+    notes.step(1, Some(rest(rt.alloc(), Frac::new(119, 2)?)?))?;
+    assert!(rt; !notes.is_over());
+    notes.step(5, Some(read(rt.alloc())?))?;
+    assert!(rt; notes.is_over());
+    notes.step(9, None)?;
+    assert_eq!(rt; notes.count(), 2);
+    let piece = notes.into_piece().ok_or("no piece")?;
+    assert_eq!(rt; piece.cost, 6);
+    assert_eq!(rt; piece.stop, Stop::Asks);
+    assert_eq!(rt; piece.actions.as_slice().len(), 2);
+    Ok(())
+}
+
+#[test]
+fn a_piece_stops_at_its_limit(rt: HostRuntime) -> Result<(), Fail> {
+    for (first, second, stop, cost) in [
+        (1, 1, None, 0),
+        (1, 2, Some(Stop::More), 3),
+        (2, u64::MAX, Some(Stop::More), u64::MAX),
+        (3, 1, Some(Stop::More), 3),
+    ] {
+        let mut notes = Recorder::new(rt.alloc(), 0, 3, Frac::new(60, 1)?);
+        notes.step(first, None)?;
+        notes.step(second, None)?;
+        let piece = notes.into_piece();
+        assert_eq!(rt;
+            piece.as_ref().map(|piece| piece.stop),
+            stop,
+            "{first} {second}"
+        );
+        assert_eq!(rt;
+            piece.map_or(0, |piece| piece.cost),
+            cost,
+            "{first} {second}"
+        );
+    }
+    Ok(())
+}
+
+#[test]
+fn a_rest_to_the_horizon_is_a_stop(rt: HostRuntime) -> Result<(), Fail> {
+    for (quarters, stops) in [(0, false), (238, false), (239, true), (240, true)] {
+        let mut notes = Recorder::new(rt.alloc(), 0, 100, Frac::new(60, 1)?);
+        notes.step(1, Some(rest(rt.alloc(), Frac::new(quarters, 4)?)?))?;
+        assert_eq!(rt; notes.is_over(), stops, "{quarters}");
+    }
+    Ok(())
+}
+
+#[test]
+fn nothing_is_noted_of_a_finished_thread(rt: HostRuntime) -> Result<(), Fail> {
+    let mut notes = Recorder::new(rt.alloc(), 0, 100, Frac::new(60, 1)?);
+    notes.step(4, None)?;
+    notes.finish();
+    notes.step(1, Some(read(rt.alloc())?))?;
+    assert!(rt; notes.is_over());
+    assert_eq!(rt; notes.count(), 1);
+    assert!(rt; notes.into_piece().is_none());
     Ok(())
 }

@@ -1,4 +1,5 @@
 ghost use Rattle.std.specs.Prelude.{◌≡◌, [], ◌∷◌, ◌++◌, OnErr, OnOk};
+ghost use Rattle.vt_run.specs.Limits.{IsVerdictChecked};
 
 use std::alloc::Global;
 use std::marker::Model;
@@ -33,10 +34,16 @@ impl Model for Texts {
 
     ghost coded = { Prim.hlevel (codes, any_block.the_row.coded) };
 
+    ghost use Rattle.vt_run.specs.Limits.{AreChecked};
+
     ghost view = { λ texts. texts.items.items };
+
+    ghost invariant = { λ texts. AreChecked texts.items.items };
 }
 
 impl Texts {
+    ghost use Rattle.vt_run.specs.Limits.{AreChecked};
+
     /// No texts.
     pub fn new(alloc: Global) -> Texts
         ensures { result ≡ [] }
@@ -51,14 +58,28 @@ impl Texts {
         ensures ok { OnOk result (self.new ≡ self.old ++ (time, verdict) ∷ []) }
         ensures err { OnErr result (self.new ≡ self.old) }
     {
+        keep_checked(&verdict);
         self.items.push((time, verdict))?;
         Ok(())
     }
 
     /// The texts in order.
     pub fn as_slice(&self) -> &[(Frac, Verdict)]
-        ensures { result.now ≡ self.now }
+        ensures value { result.now ≡ self.now }
+        ensures checked { AreChecked self.now }
     {
         self.items.as_slice()
+    }
+}
+
+/// What the type of a checked tree keeps, told of a verdict. It does nothing.
+fn keep_checked(verdict: &Verdict)
+    ensures { IsVerdictChecked verdict.now }
+{
+    match verdict {
+        Verdict::Good(tree) => {
+            tree.block(0);
+        }
+        Verdict::Bad { .. } => {}
     }
 }

@@ -1,4 +1,4 @@
-use Rattle.vt_run.proofs.ThreadGrowth.{prefix_law}
+use Rattle.vt_run.proofs.Prefixes.{prefix_law}
 use Rattle.vt_run.proofs.laws.fewer_steps_are_a_front.Goals as goal
 
 pub returns : goal.returns

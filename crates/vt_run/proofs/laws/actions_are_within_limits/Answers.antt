@@ -1,0 +1,5 @@
+use Rattle.vt_run.proofs.ThreadSteps.{limits_law}
+use Rattle.vt_run.proofs.laws.actions_are_within_limits.Goals as goal
+
+pub returns : goal.returns
+returns c = limits_law
