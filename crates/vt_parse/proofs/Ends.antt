@@ -10,8 +10,8 @@ use Rattle.vt_parse.specs.Parses.{Fails, peeked_line}
 use Rattle.vt_grammar.specs.Tokens.{spelled, spelled_in}
 use Rattle.vt_grammar.specs.Text.{text, Reads, Begins, SyntaxRefuses}
 use Rattle.vt_grammar.specs.Trees.{block_tree}
-use Rattle.vt_parse.specs.declared.fault.Fault.{Fault}
-use Rattle.vt_parse.specs.declared.fault.Fault.TheVariants.{Here}
+use Rattle.vt_build.specs.declared.fault.Fault.{Fault}
+use Rattle.vt_build.specs.declared.fault.Fault.TheVariants.{Here}
 use Rattle.vt_grammar.proofs.TextLaws.{text_lawful}
 
 -- where the marks are cut before one of them, so are the tokens

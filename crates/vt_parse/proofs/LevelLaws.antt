@@ -4,16 +4,16 @@ use Rattle.vt_tree.specs.declared.expression.ChainKind.{ChainKind}
 use Rattle.vt_tree.specs.declared.expression.ChainKind.TheVariants as chains
 use Rattle.vt_tree.specs.declared.expression.Expr.{Expr}
 use Rattle.std.proofs.Common.{Option, Result}
-use Rattle.vt_parse.specs.declared.fault.Fault.{Fault}
+use Rattle.vt_build.specs.declared.fault.Fault.{Fault}
 use Rattle.vt_parse.specs.Parses.{Parses, peeked_in}
 use Rattle.vt_tree.specs.declared.statement.Block.{Block}
 use Rattle.vt_grammar.specs.Trees.{Argument}
-use Rattle.vt_parse.specs.declared.classes.Class.{Class}
+use Rattle.vt_build.specs.declared.classes.Class.{Class}
 use Rattle.vt_grammar.specs.declared.words.Word.{Word}
 use Rattle.vt_grammar.specs.Form.{many, optional}
 use Rattle.vt_grammar.specs.Steps.{Read, Stuck}
 use Rattle.vt_grammar.specs.Marks.{Mark}
-use Rattle.vt_parse.specs.Classes.{class_words}
+use Rattle.vt_build.specs.Classes.{class_words}
 use Rattle.vt_parse.specs.Levels.{below, ops_of}
 use Rattle.vt_grammar.specs.Grammar.{Opened, among, arg, labelled_arg, block_where, link}
 use Rattle.vt_grammar.specs.Sets.{UnaryStarts, ExprStarts, PostfixGoes, TermGoes, SumGoes, CompGoes, ConjGoes, DisjGoes, ExprGoes}

@@ -1,7 +1,6 @@
 pub mod Loops
 pub mod Fronts
 pub mod Rules
-pub mod Digits
 pub mod Openings
 pub mod Gathering
 pub mod Decisions

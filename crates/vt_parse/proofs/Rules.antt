@@ -2,8 +2,8 @@
 use Rattle.std.proofs.Common.{◌≡◌, ◌<◌, Bool, true, false, length, List, [], ◌∷◌, ◌++◌, Some, None, Result, Ok, Err, Option, refl, sym, ap, ap₂, ◌∙◌, subst, arith, length-append}
 use Rattle.std.specs.Result.{IsErrAnd}
 use Rattle.std.proofs.lemmas.Result.{err_from_is_err_and}
-use Rattle.vt_parse.specs.declared.fault.Fault.{Fault}
-use Rattle.vt_parse.specs.declared.fault.Fault.TheVariants.{Here, NoMemory}
+use Rattle.vt_build.specs.declared.fault.Fault.{Fault}
+use Rattle.vt_build.specs.declared.fault.Fault.TheVariants.{Here, NoMemory}
 use Rattle.vt_grammar.specs.declared.words.Word.{Word}
 use Rattle.vt_tree.specs.declared.expression.Expr.{Expr}
 use Rattle.vt_tree.specs.declared.statement.Arm.{Arm}
@@ -14,7 +14,8 @@ use Rattle.vt_grammar.specs.Form.{Form, next, either, mapped, optional, with_its
 use Rattle.vt_grammar.specs.Steps.{Read, Stuck}
 use Rattle.vt_grammar.specs.Marks.{Mark}
 use Rattle.vt_grammar.specs.Grammar.{word, among, first_line}
-use Rattle.vt_parse.specs.Parses.{Fails, Parses, ParsesAs, Makes, Maps, peeked_in}
+use Rattle.vt_build.specs.Made.{Makes, Maps}
+use Rattle.vt_parse.specs.Parses.{Fails, Parses, ParsesAs, peeked_in}
 use Rattle.vt_grammar.specs.Sets.{just}
 use Rattle.vt_grammar.proofs.Sequences.{next_read, next_stuck, next_stuck_first, stuck_here}
 use Rattle.vt_grammar.proofs.Choices.{Bars, one_read, one_stuck, empty_lawful, empty_read, mapped_read, mapped_stuck, left_read, right_read, left_stuck, right_stuck}

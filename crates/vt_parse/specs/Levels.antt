@@ -3,10 +3,10 @@ use Rattle.std.specs.Prelude.{Bool}
 use Rattle.vt_tree.specs.declared.expression.ChainKind.{ChainKind}
 use Rattle.vt_tree.specs.declared.expression.ChainKind.TheVariants as chains
 use Rattle.vt_tree.specs.declared.expression.Expr.{Expr}
-use Rattle.vt_parse.specs.declared.classes.Class.{Class}
-use Rattle.vt_parse.specs.declared.classes.Class.TheVariants as classes
+use Rattle.vt_build.specs.declared.classes.Class.{Class}
+use Rattle.vt_build.specs.declared.classes.Class.TheVariants as classes
 use Rattle.vt_grammar.specs.declared.words.Word.{Word}
-use Rattle.vt_parse.specs.Classes.{class_words}
+use Rattle.vt_build.specs.Classes.{class_words}
 use Rattle.vt_grammar.specs.Form.{Form}
 use Rattle.vt_grammar.specs.Grammar.{Opened, unary, term, sum, comp, conj, negation}
 use Rattle.vt_grammar.specs.Marks.{Mark}

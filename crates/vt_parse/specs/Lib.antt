@@ -1,5 +1,3 @@
-pub mod Rows
-pub mod Classes
 pub mod Levels
 pub mod Parses
 pub mod Answers

@@ -1,8 +1,8 @@
 -- What the parser's functions answer.
-use Rattle.std.specs.Prelude.{◌≡◌, ℕ, Bool, false, ◌&&◌, List, [], ◌∷◌, Option, Some, None, Result, Ok, Err}
+use Rattle.std.specs.Prelude.{ℕ, Bool, false, ◌&&◌, List, [], ◌∷◌, Option, Some, None, Result, Ok, Err}
 use Rattle.vt_grammar.specs.declared.words.Word.{Word}
-use Rattle.vt_parse.specs.declared.fault.Fault.{Fault}
-use Rattle.vt_parse.specs.declared.fault.Fault.TheVariants.{Here, NoMemory}
+use Rattle.vt_build.specs.declared.fault.Fault.{Fault}
+use Rattle.vt_build.specs.declared.fault.Fault.TheVariants.{Here, NoMemory}
 use Rattle.vt_parse.specs.declared.seen.Seen.{Seen}
 use Rattle.vt_grammar.specs.Form.{Form}
 use Rattle.vt_grammar.specs.Steps.{Read, Stuck}
@@ -67,18 +67,3 @@ Parses a old new (Err e) = Fails a old new e
 abbrev pub ParsesAs : {V W : Type 0} → (W → V) → Form Mark V → List Mark → List Mark → Result W Fault → Type 0
 ParsesAs f a old new (Ok w) = Read a old new (f w)
 ParsesAs f a old new (Err e) = Fails a old new e
-
--- this value, unless there is no memory
-abbrev pub Makes : {V : Type 0} → V → Result V Fault → Type 0
-Makes v (Ok w) = w ≡ v
-Makes v (Err e) = e ≡ NoMemory
-
--- what this makes of the value that was read, or the fault where none was
-abbrev pub Maps : {V W : Type 0} → (V → W) → Result V Fault → Result W Fault → Type 0
-Maps f (Ok v) r = r ≡ Ok (f v)
-Maps f (Err e) r = r ≡ Err e
-
--- this holds, unless there is no memory
-abbrev pub Unless : Type 0 → Result (Unit {0}) Fault → Type 0
-Unless P (Ok u) = P
-Unless P (Err e) = e ≡ NoMemory

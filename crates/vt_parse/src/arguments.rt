@@ -4,13 +4,12 @@ ghost use Rattle.vt_grammar.specs.Grammar.{arg, args, command, cond_form, expr, 
 ghost use Rattle.vt_parse.specs.Parses.{Parses, is_command};
 ghost use Rattle.vt_grammar.specs.Trees.{gathered};
 
-use crate::fault::Fault;
-use crate::make::{
-    Argument, add_argument, arguments_of, first_argument, first_item, has_label, labels_begun,
-    make_argument, make_command,
-};
 use crate::parser::Parser;
 use std::alloc::Global;
+use vt_build::{
+    Argument, Fault, add_argument, arguments_of, first_argument, first_item, has_label,
+    labels_begun, make_argument, make_command,
+};
 use vt_grammar::{Arguments, Word};
 use vt_tree::{Expr, Exprs};
 

@@ -6,16 +6,13 @@ ghost use Rattle.vt_parse.specs.Parses.{Parses};
 ghost use Rattle.vt_grammar.specs.Trees.{with_parts};
 ghost use Rattle.vt_tree.specs.declared.expression.ChainKind.TheVariants as ChainKind;
 
-use crate::classes::Class;
-use crate::fault::Fault;
-use crate::literals::make_literal;
-use crate::make::{
-    is_bare_get, left_after, list_tree, make_chain, make_comparison, make_dot, make_link,
-    make_named, make_part, make_unary, wrapped,
-};
 use crate::parser::Parser;
 use sqlite_items::Items;
 use std::alloc::Global;
+use vt_build::{
+    Class, Fault, is_bare_get, left_after, list_tree, make_chain, make_comparison, make_dot,
+    make_link, make_literal, make_named, make_part, make_unary, wrapped,
+};
 use vt_grammar::{Part, Word};
 use vt_tree::{Call, ChainKind, Expr, Link, Links};
 

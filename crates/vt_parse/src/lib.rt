@@ -2,11 +2,7 @@
 #![tactic(auto)]
 
 mod arguments;
-mod classes;
 mod expressions;
-mod fault;
-mod literals;
-mod make;
 mod parser;
 mod seen;
 #[cfg(test)]
@@ -16,7 +12,6 @@ mod syntax;
 #[cfg(test)]
 mod tests;
 mod texts;
-mod words;
 
 ghost use Rattle.vt_parse.specs.Parses.{Parses};
 

@@ -8,13 +8,13 @@ ghost use Rattle.vt_grammar.specs.Tokens.{AreTokens, spelled};
 ghost use Rattle.vt_parse.specs.Parses.{Parses, ParsesAs, is_assign, is_command, leads_second, peeked, peeked_second, sets_second, peeked_line, seen, peeked_in};
 ghost use Rattle.vt_grammar.specs.Sets.{ArgStarts, ExprStarts, PartStarts, StmtStarts, just, with_room};
 ghost use Rattle.std.specs.Prelude.{◌&&◌, nat_lt};
-ghost use Rattle.vt_parse.specs.Classes.{class_words};
+ghost use Rattle.vt_build.specs.Classes.{class_words};
 
-use crate::classes::{Class, is_of, leads, starts_arg, starts_expr, starts_stmt};
-use crate::fault::Fault;
 use crate::seen::Seen;
-use crate::words::{number_with, same, word_at};
 use std::marker::Model;
+use vt_build::{
+    Class, Fault, is_of, leads, number_with, same, starts_arg, starts_expr, starts_stmt, word_at,
+};
 use vt_grammar::Word;
 use vt_lex::Token;
 use vt_tree::Expr;

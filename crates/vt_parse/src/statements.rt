@@ -6,16 +6,14 @@ ghost use Rattle.vt_grammar.specs.Trees.{present};
 ghost use Rattle.vt_grammar.specs.declared.words.Word.TheVariants as Word;
 ghost use Rattle.vt_tree.specs.declared.statement.Simple.TheVariants as simples;
 
-use crate::classes::Class;
-use crate::fault::Fault;
-use crate::make::{
-    add_present, first_arm, first_name, first_stmts, is_unless, make_arm, make_assign, make_block,
-    make_stmt, make_with_block, name_of, takes_block,
-};
 use crate::parser::Parser;
 use crate::seen::Seen;
 use sqlite_items::Items;
 use std::alloc::Global;
+use vt_build::{
+    Class, Fault, add_present, first_arm, first_name, first_stmts, is_unless, make_arm,
+    make_assign, make_block, make_stmt, make_with_block, name_of, takes_block,
+};
 use vt_grammar::Word;
 use vt_tree::{Arm, Arms, Block, Expr, Names, Simple, Stmt, Stmts};
 

@@ -4,11 +4,10 @@ ghost use Rattle.vt_grammar.specs.Tokens.{AreTokens, spelled};
 ghost use Rattle.vt_grammar.specs.Text.{Reads};
 ghost use Rattle.vt_grammar.specs.Trees.{block_tree};
 
-use crate::fault::Fault;
-use crate::make::make_block;
 use crate::parser::Parser;
 use std::alloc::Global;
 use thiserror::Error;
+use vt_build::{Fault, make_block};
 use vt_lex::Token;
 use vt_tree::Block;
 

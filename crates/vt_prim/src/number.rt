@@ -1,9 +1,8 @@
 //! Numbers, and what is added to them. They take no memory, so a fault among many of them is found before any is taken.
 
-ghost use Rattle.std.specs.Prelude.{◌≡◌, ℤ, Ok, Err, Some, None, is_some, IfSome};
+ghost use Rattle.std.specs.Prelude.{◌≡◌, ℤ, Ok, Err, Some, None};
 ghost use Rattle.vt_frac.specs.Fraction.{whole};
 ghost use Rattle.vt_value.specs.Arithmetic.{arith_of, as_part, as_whole, fitting, whole_arith};
-ghost use Rattle.vt_value.specs.Kinds.{number_of};
 ghost use Rattle.vt_prim.specs.Numbers.{answer_of, value_of};
 
 use vt_frac::{Frac, FracFault};
@@ -23,22 +22,6 @@ pub(crate) fn value_of(number: Number) -> Value
     match number {
         Number::Whole(n) => Value::Whole(n),
         Number::Part(f) => Value::Part(f),
-    }
-}
-
-/// The number that a value is.
-pub(crate) fn number_in(value: &Value) -> Option<Number>
-    ensures some { IfSome result (λ number. value.now ≡ value_of number) }
-    ensures number { is_some result ≡ is_some (number_of value.now) }
-{
-    match value {
-        Value::Whole(n) => Some(Number::Whole(*n)),
-        Value::Part(f) => Some(Number::Part(*f)),
-        Value::Nil => None,
-        Value::Bool(_) => None,
-        Value::Sym(_) => None,
-        Value::Text(_) => None,
-        Value::Ring(_) => None,
     }
 }
 

@@ -1,105 +1,22 @@
+mod reader;
+
 use crate::call;
+use reader::{Row, row_of};
 use std::alloc::{AllocGlobal, Global};
 use std::process::Abort;
 use std::test::Fail;
-use vt_frac::{Frac, Name};
 use vt_rand::Stream;
 use vt_table::call_of;
-use vt_value::{Integer, Items, Symbol, Value, ValueFault};
+use vt_value::{Value, ValueFault};
 
-const MOST: i64 = i64::MAX;
-
-/// A value to be made for a case.
-#[derive(Clone, Copy, Debug)]
-enum Seed {
-    Nil,
-    True,
-    W(i64),
-    P(i64, i64),
-    S(&'static str),
-    T(&'static str),
-    /// A ring of whole numbers.
-    R(&'static [i64]),
-    /// A ring of a whole number, a fraction and a last value.
-    Mixed(i64, (i64, i64), &'static [i64]),
-    /// A ring of two whole numbers and nil.
-    Spoiled(i64, i64),
-}
-
-use Seed::{Mixed, Nil, P, R, S, Spoiled, T, True, W};
-
-fn whole(number: i64) -> Result<Value, Fail> {
-    Ok(Value::Whole(Integer::new(number).ok_or("no whole number")?))
-}
-
-fn push_numbers(items: &mut Items, numbers: &[i64]) -> Result<(), Fail> {
-    for number in numbers {
-        items.push(whole(*number)?)?;
-    }
-    Ok(())
-}
-
-fn ring(
-    alloc: Global,
-    first: &[i64],
-    part: Option<(i64, i64)>,
-    last: &[i64],
-) -> Result<Items, Fail> {
-    let mut items = Items::new(alloc);
-    push_numbers(&mut items, first)?;
-    if let Some((n, d)) = part {
-        items.push(Value::Part(Frac::new(n, d)?))?;
-    }
-    push_numbers(&mut items, last)?;
-    Ok(items)
-}
-
-fn made(alloc: Global, seed: Seed) -> Result<Value, Fail> {
-    match seed {
-        Seed::Nil => Ok(Value::Nil),
-        Seed::True => Ok(Value::Bool(true)),
-        Seed::W(n) => whole(n),
-        Seed::P(n, d) => Ok(Value::Part(Frac::new(n, d)?)),
-        Seed::S(name) => symbol(alloc, name),
-        Seed::T(text) => Ok(Value::Text(Name::of(alloc, text.as_bytes())?)),
-        Seed::R(items) => Ok(Value::Ring(ring(alloc, items, None, &[])?)),
-        Seed::Mixed(first, part, last) => Ok(Value::Ring(ring(alloc, &[first], Some(part), last)?)),
-        Seed::Spoiled(first, second) => {
-            let mut items = ring(alloc, &[first, second], None, &[])?;
-            items.push(Value::Nil)?;
-            Ok(Value::Ring(items))
-        }
-    }
-}
-
-fn symbol(alloc: Global, name: &str) -> Result<Value, Fail> {
-    let name = Name::of(alloc, name.as_bytes())?;
-    Ok(Value::Sym(Symbol::new(name).ok_or("no symbol")?))
-}
-
-fn all_made(alloc: Global, seeds: &[Seed]) -> Result<Vec<Value>, Fail> {
-    let mut values = Vec::new(alloc);
-    for seed in seeds {
-        values.push(made(alloc, *seed)?)?;
-    }
-    Ok(values)
-}
-
-fn one_option(alloc: Global, name: &str, seed: Seed) -> Result<Vec<(Name, Value)>, Fail> {
-    let mut options = Vec::new(alloc);
-    if !name.is_empty() {
-        let name = Name::of(alloc, name.as_bytes())?;
-        options.push((name, made(alloc, seed)?))?;
-    }
-    Ok(options)
-}
-
-/// Appends the text of a value, a fraction with a `p` before it.
-fn write_marked(alloc: Global, text: &mut Vec<u8>, value: &Value) -> Result<(), Fail> {
-    if matches!(value, Value::Part(_)) {
-        text.push(b'p')?;
-    }
+/// Appends the text of a value, that of a fraction always with its denominator.
+fn write_item(alloc: Global, text: &mut Vec<u8>, value: &Value) -> Result<(), Fail> {
     value.write(alloc, text)?;
+    if let Value::Part(fraction) = value
+        && fraction.denom() == 1
+    {
+        text.extend_from_slice(b"/1")?;
+    }
     Ok(())
 }
 
@@ -109,372 +26,309 @@ fn write_items(alloc: Global, text: &mut Vec<u8>, items: &[Value]) -> Result<(),
         if i > 0 {
             text.extend_from_slice(b", ")?;
         }
-        write_marked(alloc, text, item)?;
+        write_item(alloc, text, item)?;
     }
     text.push(b']')?;
     Ok(())
 }
 
-/// The text of a value, or the word of a fault. A fraction, also in a ring, has a `p` before it.
-fn answer(alloc: Global, outcome: &Result<Value, ValueFault>) -> Result<Vec<u8>, Fail> {
+/// The text of a value as the rows spell it, or the word of a fault.
+fn answer(alloc: Global, outcome: &Result<Value, ValueFault>) -> Result<String, Fail> {
     let mut text = Vec::new(alloc);
     match outcome {
         Ok(Value::Ring(items)) => write_items(alloc, &mut text, items.as_slice())?,
-        Ok(value) => write_marked(alloc, &mut text, value)?,
+        Ok(value) => write_item(alloc, &mut text, value)?,
         Err(ValueFault::Fault(kind)) => text.extend_from_slice(kind.word().as_bytes())?,
         Err(ValueFault::NoMemory) => text.extend_from_slice(b"no memory")?,
     }
-    Ok(text)
+    Ok(String::from_utf8(text)?)
 }
 
-/// What the call of this name gives, as its text.
-fn called(
-    alloc: Global,
-    name: &str,
-    args: &[Value],
-    options: &[(Name, Value)],
-    stream: &mut Stream,
-) -> Result<Vec<u8>, Fail> {
-    let row = call_of(name.as_bytes()).ok_or("no call")?;
-    if row.effect {
-        return Err(Fail::from("a call with effects"));
+/// What the call of a row gives, or `None` where its name is that of no pure or random call.
+fn called(alloc: Global, row: &Row<'_>, stream: &mut Stream) -> Option<Result<Value, ValueFault>> {
+    let call_row = call_of(row.name.as_bytes())?;
+    if call_row.effect {
+        return None;
     }
-    let outcome = call(alloc, row.number, args, options, stream);
-    answer(alloc, &outcome)
+    let args = row.arguments.values.as_slice();
+    let options = row.arguments.options.as_slice();
+    Some(call(alloc, call_row.number, args, options, stream))
 }
 
-/// A call by its name, its arguments, and its value or fault as its text.
-type Case = (&'static str, &'static [Seed], &'static str);
-
-fn check<X: AllocGlobal + Abort>(rt: &X, cases: &[Case]) -> Result<(), Fail> {
+/// Sees that each row gives its answer, and draws its words and no more.
+fn check<X: AllocGlobal + Abort>(rt: &X, rows: &str) -> Result<(), Fail> {
     let alloc = rt.alloc();
-    for (name, seeds, want) in cases {
-        let args = all_made(alloc, seeds)?;
-        let mut stream = Stream::from_seed(42);
-        let text = called(alloc, name, &args, &[], &mut stream)?;
-        assert_eq!(rt; text.as_slice(), want.as_bytes(), "{name} {seeds:?}");
-        assert_eq!(rt; stream.word(), 0xcaa87230, "{name} {seeds:?} draws");
+    for line in rows.lines() {
+        let Some(row) = row_of(alloc, line) else {
+            panic!(rt; "no row: {line}");
+        };
+        let mut stream = Stream::from_seed(row.seed);
+        let Some(outcome) = called(alloc, &row, &mut stream) else {
+            panic!(rt; "no pure or random call: {line}");
+        };
+        let text = answer(alloc, &outcome)?;
+        assert_eq!(rt; text.as_str(), row.want, "{line}");
+        assert_eq!(rt; stream.word(), row.next, "words drawn: {line}");
     }
     Ok(())
 }
+
+const NUMBERS: &str = "\
+min 3, 2 => 2
+min 1, 1/1 => 1
+min 1/1, 1 => 1/1
+min 1, nil => wrong_kind
+min 1 => wrong_count
+max 3, 2 => 3
+max 1/1, 1 => 1/1
+max :a, 1 => wrong_kind
+abs -7 => 7
+abs -7/2 => 7/2
+abs \"a\" => wrong_kind
+inc 1/2 => 3/2
+inc 9223372036854775807 => overflow
+inc [] => wrong_kind
+dec 0 => -1
+dec -9223372036854775807 => overflow
+dec \"a\" => wrong_kind
+floor -5/2 => -3
+floor 7 => 7
+floor nil => wrong_kind
+ceil -5/2 => -2
+ceil 5/2 => 3
+ceil => wrong_count
+round 5/2 => 3
+round -5/2 => -2
+round 7/3 => 2
+round 4611686018427387904 => overflow
+round true => wrong_kind
+even -4 => true
+even 3 => false
+even 2/1 => wrong_kind
+odd -3 => true
+odd 0 => false
+odd nil => wrong_kind
+";
 
 #[test]
 fn calls_on_numbers(rt: HostRuntime) -> Result<(), Fail> {
-    check(
-        &rt,
-        &[
-            ("min", &[W(3), W(2)], "2"),
-            ("min", &[W(1), P(1, 1)], "1"),
-            ("min", &[P(1, 1), W(1)], "p1"),
-            ("min", &[W(1), Nil], "wrong_kind"),
-            ("min", &[W(1)], "wrong_count"),
-            ("max", &[W(3), W(2)], "3"),
-            ("max", &[P(1, 1), W(1)], "p1"),
-            ("max", &[S("a"), W(1)], "wrong_kind"),
-            ("abs", &[W(-7)], "7"),
-            ("abs", &[P(-7, 2)], "p7/2"),
-            ("abs", &[T("a")], "wrong_kind"),
-            ("inc", &[P(1, 2)], "p3/2"),
-            ("inc", &[W(MOST)], "overflow"),
-            ("inc", &[R(&[])], "wrong_kind"),
-            ("dec", &[W(0)], "-1"),
-            ("dec", &[W(-MOST)], "overflow"),
-            ("dec", &[T("a")], "wrong_kind"),
-            ("floor", &[P(-5, 2)], "-3"),
-            ("floor", &[W(7)], "7"),
-            ("floor", &[Nil], "wrong_kind"),
-            ("ceil", &[P(-5, 2)], "-2"),
-            ("ceil", &[P(5, 2)], "3"),
-            ("ceil", &[], "wrong_count"),
-            ("round", &[P(5, 2)], "3"),
-            ("round", &[P(-5, 2)], "-2"),
-            ("round", &[P(7, 3)], "2"),
-            ("round", &[W(4611686018427387904)], "overflow"),
-            ("round", &[True], "wrong_kind"),
-            ("even", &[W(-4)], "true"),
-            ("even", &[W(3)], "false"),
-            ("even", &[P(2, 1)], "wrong_kind"),
-            ("odd", &[W(-3)], "true"),
-            ("odd", &[W(0)], "false"),
-            ("odd", &[Nil], "wrong_kind"),
-        ],
-    )
+    check(&rt, NUMBERS)
 }
+
+const COUNTS: &str = "\
+length [1, 2, 3] => 3
+length [] => 0
+length 1 => wrong_kind
+size [1, 2] => 2
+size [] => 0
+size \"ab\" => wrong_kind
+count [7] => 1
+count [] => 0
+count nil => wrong_kind
+sum [1, 2, 3] => 6
+sum [] => 0
+sum [1, 1/1] => 2/1
+sum [9223372036854775807, 1] => overflow
+sum [9223372036854775807, 1, nil] => wrong_kind
+sum 1 => wrong_kind
+sort [3, 1, 2] => [1, 2, 3]
+sort [] => []
+sort [1, 1/1, 0, 1] => [0, 1, 1/1, 1]
+sort [2, 1/2, -1] => [-1, 1/2, 2]
+sort [2, 1, nil] => wrong_kind
+first [7, 8] => 7
+first [] => empty_ring
+first :a => wrong_kind
+last [7, 8] => 8
+last [] => empty_ring
+last 1 => wrong_kind
+";
 
 #[test]
 fn calls_that_count_and_sort(rt: HostRuntime) -> Result<(), Fail> {
-    check(
-        &rt,
-        &[
-            ("length", &[R(&[1, 2, 3])], "3"),
-            ("length", &[R(&[])], "0"),
-            ("length", &[W(1)], "wrong_kind"),
-            ("size", &[R(&[1, 2])], "2"),
-            ("size", &[R(&[])], "0"),
-            ("size", &[T("ab")], "wrong_kind"),
-            ("count", &[R(&[7])], "1"),
-            ("count", &[R(&[])], "0"),
-            ("count", &[Nil], "wrong_kind"),
-            ("sum", &[R(&[1, 2, 3])], "6"),
-            ("sum", &[R(&[])], "0"),
-            ("sum", &[Mixed(1, (1, 1), &[])], "p2"),
-            ("sum", &[R(&[MOST, 1])], "overflow"),
-            ("sum", &[Spoiled(MOST, 1)], "wrong_kind"),
-            ("sum", &[W(1)], "wrong_kind"),
-            ("sort", &[R(&[3, 1, 2])], "[1, 2, 3]"),
-            ("sort", &[R(&[])], "[]"),
-            ("sort", &[Mixed(1, (1, 1), &[0, 1])], "[0, 1, p1, 1]"),
-            ("sort", &[Mixed(2, (1, 2), &[-1])], "[-1, p1/2, 2]"),
-            ("sort", &[Spoiled(2, 1)], "wrong_kind"),
-            ("first", &[R(&[7, 8])], "7"),
-            ("first", &[R(&[])], "empty_ring"),
-            ("first", &[S("a")], "wrong_kind"),
-            ("last", &[R(&[7, 8])], "8"),
-            ("last", &[R(&[])], "empty_ring"),
-            ("last", &[W(1)], "wrong_kind"),
-        ],
-    )
+    check(&rt, COUNTS)
 }
+
+const NOTES: &str = "\
+note :c4 => 60
+note :Fs5 => 78
+note 121/2 => 121/2
+note :rest => bad_note
+note nil => wrong_kind
+scale :c, :major => [60, 62, 64, 65, 67, 69, 71, 72]
+scale 1/2, :whole_tone => [1/2, 5/2, 9/2, 13/2, 17/2, 21/2, 25/2]
+scale 9223372036854775807, :major => overflow
+scale :h, :none => bad_note
+scale 60, :none => bad_value
+scale :h, 1 => wrong_kind
+chord :c, :major7 => [60, 64, 67, 71]
+chord 50, :m7 => [50, 53, 57, 60]
+chord 9223372036854775807, :dim => overflow
+chord 60, :major9 => bad_value
+chord :h, :none => bad_note
+octs :c, 3 => [60, 72, 84]
+octs 60, 1 => [60]
+octs 60, 0 => bad_value
+octs 60, 17 => bad_value
+octs :h, 0 => bad_note
+octs :h, 1/1 => wrong_kind
+";
 
 #[test]
 fn calls_on_notes(rt: HostRuntime) -> Result<(), Fail> {
-    check(
-        &rt,
-        &[
-            ("note", &[S("c4")], "60"),
-            ("note", &[S("Fs5")], "78"),
-            ("note", &[P(121, 2)], "p121/2"),
-            ("note", &[S("rest")], "bad_note"),
-            ("note", &[Nil], "wrong_kind"),
-            (
-                "scale",
-                &[S("c"), S("major")],
-                "[60, 62, 64, 65, 67, 69, 71, 72]",
-            ),
-            (
-                "scale",
-                &[P(1, 2), S("whole_tone")],
-                "[p1/2, p5/2, p9/2, p13/2, p17/2, p21/2, p25/2]",
-            ),
-            ("scale", &[W(MOST), S("major")], "overflow"),
-            ("scale", &[S("h"), S("none")], "bad_note"),
-            ("scale", &[W(60), S("none")], "bad_value"),
-            ("scale", &[S("h"), W(1)], "wrong_kind"),
-            ("chord", &[S("c"), S("major7")], "[60, 64, 67, 71]"),
-            ("chord", &[W(50), S("m7")], "[50, 53, 57, 60]"),
-            ("chord", &[W(MOST), S("dim")], "overflow"),
-            ("chord", &[W(60), S("major9")], "bad_value"),
-            ("chord", &[S("h"), S("none")], "bad_note"),
-            ("octs", &[S("c"), W(3)], "[60, 72, 84]"),
-            ("octs", &[W(60), W(1)], "[60]"),
-            ("octs", &[W(60), W(0)], "bad_value"),
-            ("octs", &[W(60), W(17)], "bad_value"),
-            ("octs", &[S("h"), W(0)], "bad_note"),
-            ("octs", &[S("h"), P(1, 1)], "wrong_kind"),
-        ],
-    )
+    check(&rt, NOTES)
 }
+
+const MADE: &str = "\
+ring 1, nil, :a => [1, nil, :a]
+ring => []
+ring [1, 2] => [1, 2]
+ring [1], [] => [[1], []]
+ring 5/1 => [5/1]
+knit :a, 2, :b, 1 => [:a, :a, :b]
+knit => []
+knit :a => wrong_count
+knit :a, -1, :b, nil => wrong_kind
+knit :a, 4097, :b, -1 => bad_value
+knit :a, 4097 => too_large
+bools 1, 0, -3 => [true, false, true]
+bools => []
+bools 1, true => wrong_kind
+range 1, 4 => [1, 2, 3]
+range 4, 1 => [4, 3, 2]
+range 0, 1, 1/2 => [0/1, 1/2]
+range 0, 4, 2 => [0, 2]
+range 0/1, 1 => [0/1]
+range 1, 1 => []
+range -9223372036854775807, 9223372036854775807, 0 => bad_value
+range -9223372036854775807, 9223372036854775807 => overflow
+range 0, 5000 => too_large
+range 0, 1, nil => wrong_kind
+line 0, 1 => [0/1, 1/4, 1/2, 3/4]
+line 1, 1 => [1/1, 1/1, 1/1, 1/1]
+line -9223372036854775807, 9223372036854775807 => overflow
+line 0, nil => wrong_kind
+spread 3, 4 => [true, false, true, true]
+spread 0, 1 => [false]
+spread 2, 1 => bad_value
+spread 0, 0 => bad_value
+spread 9, 1/1 => wrong_kind
+";
 
 #[test]
 fn calls_that_make_rings(rt: HostRuntime) -> Result<(), Fail> {
-    check(
-        &rt,
-        &[
-            ("ring", &[W(1), Nil, S("a")], "[1, nil, :a]"),
-            ("ring", &[], "[]"),
-            ("ring", &[R(&[1, 2])], "[1, 2]"),
-            ("ring", &[R(&[1]), R(&[])], "[[1], []]"),
-            ("ring", &[P(5, 1)], "[p5]"),
-            ("knit", &[S("a"), W(2), S("b"), W(1)], "[:a, :a, :b]"),
-            ("knit", &[], "[]"),
-            ("knit", &[S("a")], "wrong_count"),
-            ("knit", &[S("a"), W(-1), S("b"), Nil], "wrong_kind"),
-            ("knit", &[S("a"), W(4097), S("b"), W(-1)], "bad_value"),
-            ("knit", &[S("a"), W(4097)], "too_large"),
-            ("bools", &[W(1), W(0), W(-3)], "[true, false, true]"),
-            ("bools", &[], "[]"),
-            ("bools", &[W(1), True], "wrong_kind"),
-            ("range", &[W(1), W(4)], "[1, 2, 3]"),
-            ("range", &[W(4), W(1)], "[4, 3, 2]"),
-            ("range", &[W(0), W(1), P(1, 2)], "[p0, p1/2]"),
-            ("range", &[W(0), W(4), W(2)], "[0, 2]"),
-            ("range", &[P(0, 1), W(1)], "[p0]"),
-            ("range", &[W(1), W(1)], "[]"),
-            ("range", &[W(-MOST), W(MOST), W(0)], "bad_value"),
-            ("range", &[W(-MOST), W(MOST)], "overflow"),
-            ("range", &[W(0), W(5000)], "too_large"),
-            ("range", &[W(0), W(1), Nil], "wrong_kind"),
-            ("line", &[W(0), W(1)], "[p0, p1/4, p1/2, p3/4]"),
-            ("line", &[W(1), W(1)], "[p1, p1, p1, p1]"),
-            ("line", &[W(-MOST), W(MOST)], "overflow"),
-            ("line", &[W(0), Nil], "wrong_kind"),
-            ("spread", &[W(3), W(4)], "[true, false, true, true]"),
-            ("spread", &[W(0), W(1)], "[false]"),
-            ("spread", &[W(2), W(1)], "bad_value"),
-            ("spread", &[W(0), W(0)], "bad_value"),
-            ("spread", &[W(9), P(1, 1)], "wrong_kind"),
-        ],
-    )
+    check(&rt, MADE)
 }
+
+const PARTS: &str = "\
+take [1, 2, 3], 2 => [1, 2]
+take [1], 5 => [1]
+take [1], -1 => bad_value
+take 1, -1 => wrong_kind
+drop [1, 2, 3], 2 => [3]
+drop [1], 5 => []
+drop [], -1 => bad_value
+take_last [1, 2, 3], 2 => [2, 3]
+take_last [1], 5 => [1]
+take_last [1], -1 => bad_value
+drop_last [1, 2, 3], 2 => [1]
+drop_last [1], 5 => []
+drop_last [1], 1/1 => wrong_kind
+butlast [1, 2] => [1]
+butlast [] => []
+butlast nil => wrong_kind
+reverse [1, 2, 3] => [3, 2, 1]
+reverse [] => []
+reverse \"ab\" => wrong_kind
+mirror [1, 2] => [1, 2, 2, 1]
+mirror [] => []
+mirror 1 => wrong_kind
+reflect [1, 2, 3] => [1, 2, 3, 2, 1]
+reflect [] => []
+reflect nil => wrong_kind
+rotate [1, 2, 3] => [2, 3, 1]
+rotate [1, 2, 3], -1 => [3, 1, 2]
+rotate [], 9223372036854775807 => []
+rotate [1, 2], 9223372036854775807 => overflow
+rotate [1], nil => wrong_kind
+stretch [1, 2], 2 => [1, 1, 2, 2]
+stretch [1], -1 => bad_value
+stretch [1], 4097 => too_large
+repeat [1, 2], 2 => [1, 2, 1, 2]
+repeat [1], -1 => bad_value
+repeat [1], 4097 => too_large
+";
 
 #[test]
 fn calls_on_parts_of_rings(rt: HostRuntime) -> Result<(), Fail> {
-    check(
-        &rt,
-        &[
-            ("take", &[R(&[1, 2, 3]), W(2)], "[1, 2]"),
-            ("take", &[R(&[1]), W(5)], "[1]"),
-            ("take", &[R(&[1]), W(-1)], "bad_value"),
-            ("take", &[W(1), W(-1)], "wrong_kind"),
-            ("drop", &[R(&[1, 2, 3]), W(2)], "[3]"),
-            ("drop", &[R(&[1]), W(5)], "[]"),
-            ("drop", &[R(&[]), W(-1)], "bad_value"),
-            ("take_last", &[R(&[1, 2, 3]), W(2)], "[2, 3]"),
-            ("take_last", &[R(&[1]), W(5)], "[1]"),
-            ("take_last", &[R(&[1]), W(-1)], "bad_value"),
-            ("drop_last", &[R(&[1, 2, 3]), W(2)], "[1]"),
-            ("drop_last", &[R(&[1]), W(5)], "[]"),
-            ("drop_last", &[R(&[1]), P(1, 1)], "wrong_kind"),
-            ("butlast", &[R(&[1, 2])], "[1]"),
-            ("butlast", &[R(&[])], "[]"),
-            ("butlast", &[Nil], "wrong_kind"),
-            ("reverse", &[R(&[1, 2, 3])], "[3, 2, 1]"),
-            ("reverse", &[R(&[])], "[]"),
-            ("reverse", &[T("ab")], "wrong_kind"),
-            ("mirror", &[R(&[1, 2])], "[1, 2, 2, 1]"),
-            ("mirror", &[R(&[])], "[]"),
-            ("mirror", &[W(1)], "wrong_kind"),
-            ("reflect", &[R(&[1, 2, 3])], "[1, 2, 3, 2, 1]"),
-            ("reflect", &[R(&[])], "[]"),
-            ("reflect", &[Nil], "wrong_kind"),
-            ("rotate", &[R(&[1, 2, 3])], "[2, 3, 1]"),
-            ("rotate", &[R(&[1, 2, 3]), W(-1)], "[3, 1, 2]"),
-            ("rotate", &[R(&[]), W(MOST)], "[]"),
-            ("rotate", &[R(&[1, 2]), W(MOST)], "overflow"),
-            ("rotate", &[R(&[1]), Nil], "wrong_kind"),
-            ("stretch", &[R(&[1, 2]), W(2)], "[1, 1, 2, 2]"),
-            ("stretch", &[R(&[1]), W(-1)], "bad_value"),
-            ("stretch", &[R(&[1]), W(4097)], "too_large"),
-            ("repeat", &[R(&[1, 2]), W(2)], "[1, 2, 1, 2]"),
-            ("repeat", &[R(&[1]), W(-1)], "bad_value"),
-            ("repeat", &[R(&[1]), W(4097)], "too_large"),
-        ],
-    )
+    check(&rt, PARTS)
 }
+
+const OPTIONS: &str = "\
+scale 0, :minor_pentatonic, num_octaves: 2 => [0, 3, 5, 7, 10, 12, 15, 17, 19, 22, 24]
+scale 0, :major, num_octaves: 9 => bad_value
+scale 0, :none, num_octaves: nil => wrong_kind
+scale :h, :major, num_octaves: 0 => bad_note
+range 0, 3, step: 2 => [0, 2]
+range 0, 1, step: 1/2 => [0/1, 1/2]
+range nil, 1, 1, step: 1 => wrong_count
+range 0, 1, step: 0 => bad_value
+line 0, 1, steps: 2 => [0/1, 1/2]
+line -9223372036854775807, 9223372036854775807, steps: 0 => bad_value
+line nil, 1, steps: 4097 => wrong_kind
+";
 
 #[test]
 fn options_and_their_faults(rt: HostRuntime) -> Result<(), Fail> {
-    let alloc = rt.alloc();
-    let cases: [(&str, &[Seed], &str, Seed, &str); 11] = [
-        (
-            "scale",
-            &[W(0), S("minor_pentatonic")],
-            "num_octaves",
-            W(2),
-            "[0, 3, 5, 7, 10, 12, 15, 17, 19, 22, 24]",
-        ),
-        (
-            "scale",
-            &[W(0), S("major")],
-            "num_octaves",
-            W(9),
-            "bad_value",
-        ),
-        (
-            "scale",
-            &[W(0), S("none")],
-            "num_octaves",
-            Nil,
-            "wrong_kind",
-        ),
-        (
-            "scale",
-            &[S("h"), S("major")],
-            "num_octaves",
-            W(0),
-            "bad_note",
-        ),
-        ("range", &[W(0), W(3)], "step", W(2), "[0, 2]"),
-        ("range", &[W(0), W(1)], "step", P(1, 2), "[p0, p1/2]"),
-        ("range", &[Nil, W(1), W(1)], "step", W(1), "wrong_count"),
-        ("range", &[W(0), W(1)], "step", W(0), "bad_value"),
-        ("line", &[W(0), W(1)], "steps", W(2), "[p0, p1/2]"),
-        ("line", &[W(-MOST), W(MOST)], "steps", W(0), "bad_value"),
-        ("line", &[Nil, W(1)], "steps", W(4097), "wrong_kind"),
-    ];
-    for (name, seeds, option, seed, want) in cases {
-        let args = all_made(alloc, seeds)?;
-        let options = one_option(alloc, option, seed)?;
-        let mut stream = Stream::from_seed(42);
-        let text = called(alloc, name, &args, &options, &mut stream)?;
-        assert_eq!(rt;
-            text.as_slice(),
-            want.as_bytes(),
-            "{name} {seeds:?} {option}"
-        );
-    }
-    Ok(())
+    check(&rt, OPTIONS)
 }
 
-/// The first words of seed 42 (bench/pcg_words).
-const WORDS: [u32; 6] = [
-    0xcaa87230, 0xc7a95d44, 0x1eb4d0ae, 0xfbcfed44, 0x5cc0ffbe, 0xa587db8d,
-];
+// The values, and how many words are drawn, by bench/random_calls; the faults by hand.
+const DRAWS: &str = "\
+rand => 6485/8192 drawing 1 of seed 42
+rand 2 => 6485/4096 drawing 1 of seed 42
+rand 1/3 => 6485/24576 drawing 1 of seed 42
+rand 1/9223372036854775807 => overflow drawing 1 of seed 42
+rand nil => wrong_kind drawing 0 of seed 42
+rand_i 12 => 9 drawing 1 of seed 42
+rand_i 1 => 0 drawing 1 of seed 42
+rand_i 4294967295 => 3400036911 drawing 1 of seed 42
+rand_i 4294967296 => bad_value drawing 0 of seed 42
+rand_i 1/1 => wrong_kind drawing 0 of seed 42
+rrand 1, 2 => 14677/8192 drawing 1 of seed 42
+rrand 1/2, -3 => -37203/16384 drawing 1 of seed 42
+rrand -9223372036854775807, 9223372036854775807 => overflow drawing 1 of seed 42
+rrand 1, nil => wrong_kind drawing 0 of seed 42
+rrand_i 1, 6 => 5 drawing 1 of seed 42
+rrand_i -5, -5 => -5 drawing 1 of seed 42
+rrand_i -3, 4294967291 => 3400036908 drawing 1 of seed 42
+rrand_i -3, 4294967292 => bad_value drawing 0 of seed 42
+rrand_i 2, 1 => bad_value drawing 0 of seed 42
+dice => 5 drawing 1 of seed 42
+dice 20 => 16 drawing 1 of seed 42
+dice 0 => bad_value drawing 0 of seed 42
+one_in 1 => true drawing 1 of seed 42
+one_in 2 => false drawing 1 of seed 42
+one_in -1 => bad_value drawing 0 of seed 42
+choose [7, 8, 9] => 9 drawing 1 of seed 42
+choose [7] => 7 drawing 1 of seed 42
+choose [] => empty_ring drawing 0 of seed 42
+choose nil => wrong_kind drawing 0 of seed 42
+pick [7, 8, 9] => [9] drawing 1 of seed 42
+pick [7, 8, 9], 5 => [9, 9, 7, 9, 8] drawing 5 of seed 42
+pick [7], 0 => [] drawing 0 of seed 42
+pick [], 0 => [] drawing 0 of seed 42
+pick [], 5000 => empty_ring drawing 0 of seed 42
+pick [], -1 => bad_value drawing 0 of seed 42
+pick [7], 4097 => bad_value drawing 0 of seed 42
+pick [], nil => wrong_kind drawing 0 of seed 42
+shuffle [1, 2, 3, 4, 5] => [3, 2, 1, 5, 4] drawing 4 of seed 42
+shuffle [1] => [1] drawing 0 of seed 42
+shuffle [] => [] drawing 0 of seed 42
+shuffle 1 => wrong_kind drawing 0 of seed 42
+";
 
-// The values for seed 42, and how many words were drawn, by bench/random_calls; the faults by hand.
 #[test]
 fn random_calls_draw_the_words_of_their_seed(rt: HostRuntime) -> Result<(), Fail> {
-    let alloc = rt.alloc();
-    let cases: [(&str, &[Seed], &str, usize); 41] = [
-        ("rand", &[], "p6485/8192", 1),
-        ("rand", &[W(2)], "p6485/4096", 1),
-        ("rand", &[P(1, 3)], "p6485/24576", 1),
-        ("rand", &[P(1, MOST)], "overflow", 1),
-        ("rand", &[Nil], "wrong_kind", 0),
-        ("rand_i", &[W(12)], "9", 1),
-        ("rand_i", &[W(1)], "0", 1),
-        ("rand_i", &[W(4294967295)], "3400036911", 1),
-        ("rand_i", &[W(4294967296)], "bad_value", 0),
-        ("rand_i", &[P(1, 1)], "wrong_kind", 0),
-        ("rrand", &[W(1), W(2)], "p14677/8192", 1),
-        ("rrand", &[P(1, 2), W(-3)], "p-37203/16384", 1),
-        ("rrand", &[W(-MOST), W(MOST)], "overflow", 1),
-        ("rrand", &[W(1), Nil], "wrong_kind", 0),
-        ("rrand_i", &[W(1), W(6)], "5", 1),
-        ("rrand_i", &[W(-5), W(-5)], "-5", 1),
-        ("rrand_i", &[W(-3), W(4294967291)], "3400036908", 1),
-        ("rrand_i", &[W(-3), W(4294967292)], "bad_value", 0),
-        ("rrand_i", &[W(2), W(1)], "bad_value", 0),
-        ("dice", &[], "5", 1),
-        ("dice", &[W(20)], "16", 1),
-        ("dice", &[W(0)], "bad_value", 0),
-        ("one_in", &[W(1)], "true", 1),
-        ("one_in", &[W(2)], "false", 1),
-        ("one_in", &[W(-1)], "bad_value", 0),
-        ("choose", &[R(&[7, 8, 9])], "9", 1),
-        ("choose", &[R(&[7])], "7", 1),
-        ("choose", &[R(&[])], "empty_ring", 0),
-        ("choose", &[Nil], "wrong_kind", 0),
-        ("pick", &[R(&[7, 8, 9])], "[9]", 1),
-        ("pick", &[R(&[7, 8, 9]), W(5)], "[9, 9, 7, 9, 8]", 5),
-        ("pick", &[R(&[7]), W(0)], "[]", 0),
-        ("pick", &[R(&[]), W(0)], "[]", 0),
-        ("pick", &[R(&[]), W(5000)], "empty_ring", 0),
-        ("pick", &[R(&[]), W(-1)], "bad_value", 0),
-        ("pick", &[R(&[7]), W(4097)], "bad_value", 0),
-        ("pick", &[R(&[]), Nil], "wrong_kind", 0),
-        ("shuffle", &[R(&[1, 2, 3, 4, 5])], "[3, 2, 1, 5, 4]", 4),
-        ("shuffle", &[R(&[1])], "[1]", 0),
-        ("shuffle", &[R(&[])], "[]", 0),
-        ("shuffle", &[W(1)], "wrong_kind", 0),
-    ];
-    for (name, seeds, want, drawn) in cases {
-        let args = all_made(alloc, seeds)?;
-        let mut stream = Stream::from_seed(42);
-        let text = called(alloc, name, &args, &[], &mut stream)?;
-        assert_eq!(rt; text.as_slice(), want.as_bytes(), "{name} {seeds:?}");
-        let next = WORDS.get(drawn).copied();
-        assert_eq!(rt; Some(stream.word()), next, "{name} {seeds:?} draws");
-    }
-    Ok(())
+    check(&rt, DRAWS)
 }

@@ -1,7 +1,7 @@
 -- The classes of words that the parser asks for.
 use Rattle.std.specs.Prelude.{Bool}
-use Rattle.vt_parse.specs.declared.classes.Class.{Class}
-use Rattle.vt_parse.specs.declared.classes.Class.TheVariants as classes
+use Rattle.vt_build.specs.declared.classes.Class.{Class}
+use Rattle.vt_build.specs.declared.classes.Class.TheVariants as classes
 use Rattle.vt_grammar.specs.declared.words.Word.{Word}
 use Rattle.vt_grammar.specs.Grammar.{is_literal, is_paren_open, is_list_open, is_sign, is_term_op, is_sum_op, is_comp_op, is_conj_op, is_disj_op, is_expr_op, is_set, is_condition}
 

@@ -1,6 +1,6 @@
 -- The tables of spellings, as the grammar has them.
 use Rattle.std.specs.Prelude.{List, [], ◌∷◌}
-use Rattle.vt_parse.specs.declared.words.Row.{Row}
+use Rattle.vt_build.specs.declared.words.Row.{Row}
 use Rattle.vt_grammar.specs.Marks.{Spelling}
 
 -- the spelling and the word of each row

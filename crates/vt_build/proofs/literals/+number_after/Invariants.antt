@@ -1,5 +1,5 @@
 use Rattle.std.proofs.Common.{length}
-use Rattle.vt_parse.proofs.literals.+number_after.Given as goal
+use Rattle.vt_build.proofs.literals.+number_after.Given as goal
 
 abbrev pub decreases-number_after : goal.decreases-number_after
 decreases-number_after l = length l.digits.now

@@ -1,6 +1,6 @@
 ghost use Rattle.std.specs.Prelude.{◌≡◌, ◌<◌, ◌^◌, pos};
 ghost use Rattle.std.specs.Str.Parse.{AllDigits, digits_value, digits_value_after};
-ghost use Rattle.vt_parse.specs.Parses.{Makes};
+ghost use Rattle.vt_build.specs.Made.{Makes};
 ghost use Rattle.vt_grammar.specs.Trees.{plain};
 ghost use Rattle.vt_grammar.specs.Values.{HasValue, fraction_of, literal_at, symbol_name};
 ghost use Rattle.vt_frac.specs.Decimal.{decimal_of};
@@ -78,7 +78,7 @@ fn literal_value(alloc: Global, word: Word, bytes: &[u8]) -> Result<Literal, Fau
 }
 
 /// The literal that a token with these bytes is.
-pub(crate) fn make_literal(alloc: Global, word: Word, bytes: &[u8]) -> Result<Expr, Fault>
+pub fn make_literal(alloc: Global, word: Word, bytes: &[u8]) -> Result<Expr, Fault>
     requires { HasValue word bytes.now }
     ensures { Makes (plain (nodes.Literal (literal_at word bytes.now))) result }
 {

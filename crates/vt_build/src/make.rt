@@ -1,6 +1,6 @@
 ghost use Rattle.std.specs.Prelude.{◌≡◌, ◌<◌, ◌+◌, ◌^◌, ◌++◌, ◌∷◌, [], Some, None, codes, true, false};
 ghost use Rattle.vt_grammar.specs.Grammar.{all_of, arguments_of, has_label, labels_begun};
-ghost use Rattle.vt_parse.specs.Parses.{Makes, Maps, Unless};
+ghost use Rattle.vt_build.specs.Made.{Makes, Maps, Unless};
 ghost use Rattle.vt_grammar.specs.Trees.{arm_tree, block_tree, call_of, call_with, chain_tree, comparison, dot_value, form_tree, gathered, is_bare_get, is_get, is_unless, labelled, left_after, named_value, no_arguments, node_takes_block, op_of, plain, positional, present, set_of, sign_of, stmt_tree, takes_block, with_block, with_part, wrapped};
 ghost use Rattle.vt_grammar.specs.Values.{label_name};
 ghost use Rattle.vt_tree.specs.declared.expression.Call.{out-Call, roll-Call};
@@ -21,9 +21,10 @@ use vt_tree::{
 };
 
 /// An argument, with its label where it has one.
-pub(crate) type Argument = (Option<Name>, Expr);
+pub type Argument = (Option<Name>, Expr);
 
-pub(crate) fn name_of(alloc: Global, bytes: &[u8]) -> Result<Name, Fault>
+/// The name of these bytes.
+pub fn name_of(alloc: Global, bytes: &[u8]) -> Result<Name, Fault>
     ensures { Makes bytes.now result }
 {
     Ok(Name::of(alloc, bytes)?)
@@ -37,7 +38,7 @@ pub(crate) fn plain(node: Node) -> Expr
 }
 
 /// The expression with one more pair of parentheses directly round it.
-pub(crate) fn wrapped(inner: Expr) -> Expr
+pub fn wrapped(inner: Expr) -> Expr
     requires { (out-Expr inner).wraps + 1 < 2 ^ 32 }
     ensures { result ≡ wrapped inner }
 {
@@ -48,7 +49,8 @@ pub(crate) fn wrapped(inner: Expr) -> Expr
     }
 }
 
-pub(crate) fn arguments_of(alloc: Global, given: Option<Arguments>) -> Arguments
+/// The arguments of a pair of parentheses, none where nothing stands in them.
+pub fn arguments_of(alloc: Global, given: Option<Arguments>) -> Arguments
     ensures { result ≡ arguments_of given }
 {
     match given {
@@ -60,7 +62,8 @@ pub(crate) fn arguments_of(alloc: Global, given: Option<Arguments>) -> Arguments
     }
 }
 
-pub(crate) fn list_tree(alloc: Global, items: Option<Exprs>) -> Expr
+/// The list of these items, empty where there are none.
+pub fn list_tree(alloc: Global, items: Option<Exprs>) -> Expr
     ensures { result ≡ plain (nodes.List (all_of items)) }
 {
     match items {
@@ -85,11 +88,7 @@ fn call_of(alloc: Global, name: &[u8], wrapped: bool, given: Arguments) -> Resul
 }
 
 /// A name alone, or the call of it with arguments in parentheses.
-pub(crate) fn make_named(
-    alloc: Global,
-    name: &[u8],
-    given: Option<Arguments>,
-) -> Result<Expr, Fault>
+pub fn make_named(alloc: Global, name: &[u8], given: Option<Arguments>) -> Result<Expr, Fault>
     ensures { Makes (named_value name.now given) result }
 {
     match given {
@@ -104,7 +103,8 @@ pub(crate) fn make_named(
     }
 }
 
-pub(crate) fn make_command(alloc: Global, name: &[u8], given: Arguments) -> Result<Expr, Fault>
+/// A call without parentheses.
+pub fn make_command(alloc: Global, name: &[u8], given: Arguments) -> Result<Expr, Fault>
     ensures { Makes (plain (nodes.Call (call_of name.now false given None))) result }
 {
     let call = call_of(alloc, name, false, given)?;
@@ -124,7 +124,7 @@ fn boxed_block(alloc: Global, block: Option<Block>) -> Result<Option<Boxed<Block
 }
 
 /// What follows a dot.
-pub(crate) fn make_dot(
+pub fn make_dot(
     alloc: Global,
     name: &[u8],
     given: Option<Arguments>,
@@ -156,14 +156,14 @@ fn is_get(node: &Node) -> bool
 
 /// Whether the expression is the name `get` alone.
 #[tactic(auto, unfolding(vt_grammar::specs::Trees::is_bare_get))]
-pub(crate) fn is_bare_get(value: &Expr) -> bool
+pub fn is_bare_get(value: &Expr) -> bool
     ensures { result ≡ is_bare_get value.now }
 {
     value.wraps == 0 && is_get(&value.node)
 }
 
 /// How many indexes and dots may follow this one.
-pub(crate) fn left_after(left: u32, fresh: bool, part: &Part) -> u32
+pub fn left_after(left: u32, fresh: bool, part: &Part) -> u32
     requires { 0 < left }
     ensures { result ≡ left_after left fresh part.now }
 {
@@ -196,7 +196,7 @@ fn make_index(alloc: Global, of: Expr, at: Expr) -> Result<Expr, Fault>
 
 /// The value with an index or a dot after it.
 #[tactic(auto, unfolding(vt_grammar::specs::Trees::with_part))]
-pub(crate) fn make_part(alloc: Global, value: Expr, part: Part) -> Result<Expr, Fault>
+pub fn make_part(alloc: Global, value: Expr, part: Part) -> Result<Expr, Fault>
     ensures { Makes (with_part value part) result }
 {
     match part {
@@ -223,7 +223,8 @@ fn sign_of(word: Word) -> UnaryOp
     }
 }
 
-pub(crate) fn make_unary(alloc: Global, word: Word, of: Expr) -> Result<Expr, Fault>
+/// The value with a sign, `!` or `not` before it.
+pub fn make_unary(alloc: Global, word: Word, of: Expr) -> Result<Expr, Fault>
     ensures { Makes (plain (nodes.Unary (sign_of word) of)) result }
 {
     let op = sign_of(word);
@@ -251,7 +252,8 @@ fn op_of(word: Word) -> ChainOp
     }
 }
 
-pub(crate) fn make_link(word: Word, part: Expr) -> Link
+/// An operator and the part after it.
+pub fn make_link(word: Word, part: Expr) -> Link
     ensures { result ≡ roll-Link (record { op = op_of word; part = part }) }
 {
     Link {
@@ -261,12 +263,7 @@ pub(crate) fn make_link(word: Word, part: Expr) -> Link
 }
 
 /// A part alone, or the chain of it and what follows it.
-pub(crate) fn make_chain(
-    alloc: Global,
-    kind: ChainKind,
-    first: Expr,
-    rest: Links,
-) -> Result<Expr, Fault>
+pub fn make_chain(alloc: Global, kind: ChainKind, first: Expr, rest: Links) -> Result<Expr, Fault>
     ensures { Makes (chain_tree kind first rest) result }
 {
     if rest.is_empty() {
@@ -276,7 +273,8 @@ pub(crate) fn make_chain(
     Ok(plain(Node::Chain { kind, first, rest }))
 }
 
-pub(crate) fn make_comparison(alloc: Global, first: Expr, link: Option<Link>) -> Result<Expr, Fault>
+/// A part alone, or the comparison of it with another.
+pub fn make_comparison(alloc: Global, first: Expr, link: Option<Link>) -> Result<Expr, Fault>
     ensures { Makes (comparison first link) result }
 {
     match link {
@@ -304,28 +302,30 @@ fn label_name(label: &[u8]) -> &[u8]
     }
 }
 
-pub(crate) fn make_argument(alloc: Global, label: &[u8], value: Expr) -> Result<Argument, Fault>
+/// The argument with this label.
+pub fn make_argument(alloc: Global, label: &[u8], value: Expr) -> Result<Argument, Fault>
     ensures { Makes (Some (label_name label.now), value) result }
 {
     let name = name_of(alloc, label_name(label))?;
     Ok((Some(name), value))
 }
 
-pub(crate) fn has_label(argument: &Argument) -> bool
+/// Whether the argument has a label.
+pub fn has_label(argument: &Argument) -> bool
     ensures { result ≡ has_label argument.now }
 {
     argument.0.is_some()
 }
 
 /// Whether an argument with a label was there, with this one.
-pub(crate) fn labels_begun(labels: bool, argument: &Argument) -> bool
+pub fn labels_begun(labels: bool, argument: &Argument) -> bool
     ensures { result ≡ labels_begun labels argument.now }
 {
     labels || has_label(argument)
 }
 
 /// Adds an argument to those of its kind.
-pub(crate) fn add_argument(found: &mut Arguments, argument: Argument) -> Result<(), Fault>
+pub fn add_argument(found: &mut Arguments, argument: Argument) -> Result<(), Fault>
     ensures { Unless (found.new ≡ gathered found.old (argument ∷ [])) result }
 {
     let (label, value) = argument;
@@ -341,7 +341,8 @@ pub(crate) fn add_argument(found: &mut Arguments, argument: Argument) -> Result<
     }
 }
 
-pub(crate) fn first_argument(alloc: Global, argument: Argument) -> Result<Arguments, Fault>
+/// The arguments of which this is the first.
+pub fn first_argument(alloc: Global, argument: Argument) -> Result<Arguments, Fault>
     ensures { Makes (gathered no_arguments (argument ∷ [])) result }
 {
     let mut found = Arguments {
@@ -352,7 +353,8 @@ pub(crate) fn first_argument(alloc: Global, argument: Argument) -> Result<Argume
     Ok(found)
 }
 
-pub(crate) fn first_item(alloc: Global, value: Expr) -> Result<Exprs, Fault>
+/// The items of which this is the first.
+pub fn first_item(alloc: Global, value: Expr) -> Result<Exprs, Fault>
     ensures { Makes (value ∷ []) result }
 {
     let mut found = Items::new(alloc);
@@ -360,7 +362,8 @@ pub(crate) fn first_item(alloc: Global, value: Expr) -> Result<Exprs, Fault>
     Ok(found)
 }
 
-pub(crate) fn first_name(alloc: Global, name: &[u8]) -> Result<Names, Fault>
+/// The names of which this is the first.
+pub fn first_name(alloc: Global, name: &[u8]) -> Result<Names, Fault>
     ensures { Makes (name.now ∷ []) result }
 {
     let mut found = Items::new(alloc);
@@ -382,7 +385,7 @@ fn node_takes_block(node: &Node) -> bool
 
 /// Whether a `do` may follow.
 #[tactic(auto, unfolding(vt_grammar::specs::Trees::takes_block))]
-pub(crate) fn takes_block(value: &Expr) -> bool
+pub fn takes_block(value: &Expr) -> bool
     ensures { result ≡ takes_block value.now }
 {
     value.wraps == 0 && node_takes_block(&value.node)
@@ -424,11 +427,7 @@ fn named_with(alloc: Global, name: Name, block: Block) -> Result<Call, Fault>
 
 /// The block goes to the command, the name, the call or the last dot before it.
 #[tactic(auto, unfolding(vt_grammar::specs::Trees::with_block))]
-pub(crate) fn make_with_block(
-    alloc: Global,
-    value: Expr,
-    block: Option<Block>,
-) -> Result<Expr, Fault>
+pub fn make_with_block(alloc: Global, value: Expr, block: Option<Block>) -> Result<Expr, Fault>
     ensures { Makes (with_block value block) result }
 {
     let Some(block) = block else {
@@ -463,12 +462,8 @@ fn set_of(word: Word) -> AssignOp
     }
 }
 
-pub(crate) fn make_assign(
-    alloc: Global,
-    name: &[u8],
-    word: Word,
-    value: Expr,
-) -> Result<Simple, Fault>
+/// The assignment of the value to the name.
+pub fn make_assign(alloc: Global, name: &[u8], word: Word, value: Expr) -> Result<Simple, Fault>
     ensures { Makes (simples.Assign name.now (set_of word) value) result }
 {
     let name = name_of(alloc, name)?;
@@ -479,7 +474,8 @@ pub(crate) fn make_assign(
     })
 }
 
-pub(crate) fn is_unless(word: Word) -> bool
+/// Whether the word of a condition is `unless`.
+pub fn is_unless(word: Word) -> bool
     ensures { result ≡ is_unless word }
 {
     match word {
@@ -509,7 +505,7 @@ fn stmt_of(line: u32, simple: Simple, modifier: Option<(bool, Expr)>) -> Stmt
 }
 
 /// The statement, or the fault of its modifier.
-pub(crate) fn make_stmt(
+pub fn make_stmt(
     line: u32,
     simple: Simple,
     modifier: Result<Option<(bool, Expr)>, Fault>,
@@ -523,7 +519,7 @@ pub(crate) fn make_stmt(
 }
 
 /// Adds the statement of a line, if it has one.
-pub(crate) fn add_present(found: &mut Stmts, stmt: Option<Stmt>) -> Result<(), Fault>
+pub fn add_present(found: &mut Stmts, stmt: Option<Stmt>) -> Result<(), Fault>
     ensures { Unless (found.new ≡ found.old ++ present (stmt ∷ [])) result }
 {
     match stmt {
@@ -535,7 +531,8 @@ pub(crate) fn add_present(found: &mut Stmts, stmt: Option<Stmt>) -> Result<(), F
     }
 }
 
-pub(crate) fn first_stmts(alloc: Global, stmt: Option<Stmt>) -> Result<Stmts, Fault>
+/// The statements of the first line, if it has one.
+pub fn first_stmts(alloc: Global, stmt: Option<Stmt>) -> Result<Stmts, Fault>
     ensures { Makes (present (stmt ∷ [])) result }
 {
     let mut found = Items::new(alloc);
@@ -543,7 +540,8 @@ pub(crate) fn first_stmts(alloc: Global, stmt: Option<Stmt>) -> Result<Stmts, Fa
     Ok(found)
 }
 
-pub(crate) fn make_block(alloc: Global, number: u32, params: Option<Names>, stmts: Stmts) -> Block
+/// The block of this number, without parameters where none are written.
+pub fn make_block(alloc: Global, number: u32, params: Option<Names>, stmts: Stmts) -> Block
     ensures { result ≡ block_tree number params stmts }
 {
     match params {
@@ -561,7 +559,7 @@ pub(crate) fn make_block(alloc: Global, number: u32, params: Option<Names>, stmt
 }
 
 /// The branch, or the fault of its statements.
-pub(crate) fn make_arm(unless: bool, cond: Expr, stmts: Result<Stmts, Fault>) -> Result<Arm, Fault>
+pub fn make_arm(unless: bool, cond: Expr, stmts: Result<Stmts, Fault>) -> Result<Arm, Fault>
     ensures { Maps (λ found. arm_tree unless cond found) stmts result }
 {
     match stmts {
@@ -574,7 +572,8 @@ pub(crate) fn make_arm(unless: bool, cond: Expr, stmts: Result<Stmts, Fault>) ->
     }
 }
 
-pub(crate) fn first_arm(alloc: Global, arm: Arm) -> Result<Arms, Fault>
+/// The branches of which this is the first.
+pub fn first_arm(alloc: Global, arm: Arm) -> Result<Arms, Fault>
     ensures { Makes (arm ∷ []) result }
 {
     let mut found = Items::new(alloc);

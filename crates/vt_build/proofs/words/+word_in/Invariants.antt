@@ -1,5 +1,5 @@
 use Rattle.std.proofs.Common.{length}
-use Rattle.vt_parse.proofs.words.+word_in.Given as goal
+use Rattle.vt_build.proofs.words.+word_in.Given as goal
 
 abbrev pub decreases-word_in : goal.decreases-word_in
 decreases-word_in l = length l.rows.now

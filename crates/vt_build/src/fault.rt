@@ -14,7 +14,7 @@ impl From<AllocError> for Fault {
     }
 
     ghost use Rattle.std.specs.Prelude.{◌≡◌};
-    ghost use Rattle.vt_parse.specs.declared.fault.Fault.TheVariants.{NoMemory};
+    ghost use Rattle.vt_build.specs.declared.fault.Fault.TheVariants.{NoMemory};
 
     ghost from_gives = { λ _ e. e ≡ NoMemory };
 }
@@ -25,7 +25,7 @@ impl From<NoMemory> for Fault {
     }
 
     ghost use Rattle.std.specs.Prelude.{◌≡◌};
-    ghost use Rattle.vt_parse.specs.declared.fault.Fault.TheVariants.{NoMemory};
+    ghost use Rattle.vt_build.specs.declared.fault.Fault.TheVariants.{NoMemory};
 
     ghost from_gives = { λ _ e. e ≡ NoMemory };
 }

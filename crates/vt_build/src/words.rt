@@ -1,6 +1,6 @@
 ghost use Rattle.std.specs.Prelude.{◌≡◌, ◌<◌, ◌+◌, ◌^◌, suc, cond};
 ghost use Rattle.vt_grammar.specs.Marks.{word_in, spaced, word_at, begins_block};
-ghost use Rattle.vt_parse.specs.Rows.{rows_of};
+ghost use Rattle.vt_build.specs.Rows.{rows_of};
 ghost use Rattle.vt_grammar.specs.Sets.{just};
 
 use vt_grammar::Word;
@@ -206,7 +206,7 @@ fn spaced(gap: bool, tight: bool, word: Word) -> Word
 }
 
 /// The word of a token of this kind with these bytes.
-pub(crate) fn word_at(kind: TokenKind, gap: bool, tight: bool, bytes: &[u8]) -> Word
+pub fn word_at(kind: TokenKind, gap: bool, tight: bool, bytes: &[u8]) -> Word
     ensures { result ≡ word_at kind gap tight bytes.now }
 {
     match kind {
@@ -224,7 +224,7 @@ pub(crate) fn word_at(kind: TokenKind, gap: bool, tight: bool, bytes: &[u8]) -> 
 }
 
 /// How many blocks have begun with this word, where so many had begun before it.
-pub(crate) fn number_with(number: u32, word: Word) -> u32
+pub fn number_with(number: u32, word: Word) -> u32
     requires { number + 1 < 2 ^ 32 }
     ensures { result ≡ cond (begins_block word) (suc number) number }
 {
@@ -235,7 +235,7 @@ pub(crate) fn number_with(number: u32, word: Word) -> u32
 }
 
 /// Whether the two are one word.
-pub(crate) fn same(word: Word, other: Word) -> bool
+pub fn same(word: Word, other: Word) -> bool
     ensures { result ≡ just word other }
 {
     word == other

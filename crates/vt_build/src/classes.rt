@@ -1,5 +1,5 @@
 ghost use Rattle.std.specs.Prelude.{◌≡◌, nat_lt};
-ghost use Rattle.vt_parse.specs.Classes.{class_words};
+ghost use Rattle.vt_build.specs.Classes.{class_words};
 ghost use Rattle.vt_grammar.specs.Grammar.{is_literal, is_paren_open, is_list_open, is_sign, is_term_op, is_sum_op, is_comp_op, is_conj_op, is_disj_op, is_expr_op, is_set, is_condition, leads};
 ghost use Rattle.vt_grammar.specs.Sets.{ExprStarts, ArgStarts, StmtStarts};
 
@@ -23,7 +23,7 @@ pub enum Class {
 }
 
 /// Whether the word is in the class.
-pub(crate) fn is_of(class: Class, word: Word) -> bool
+pub fn is_of(class: Class, word: Word) -> bool
     ensures { result ≡ class_words class word }
 {
     match class {
@@ -158,7 +158,7 @@ fn is_condition(word: Word) -> bool
 }
 
 /// Whether the word makes the name before it the head of a command, where a blank stands between them.
-pub(crate) fn leads(word: Word) -> bool
+pub fn leads(word: Word) -> bool
     ensures { result ≡ leads word }
 {
     match word {
@@ -173,7 +173,7 @@ pub(crate) fn leads(word: Word) -> bool
 }
 
 /// Whether an expression may begin with the word, where so many more brackets and blocks may be opened.
-pub(crate) fn starts_expr(room: u32, word: Word) -> bool
+pub fn starts_expr(room: u32, word: Word) -> bool
     ensures { result ≡ ExprStarts (nat_lt 0 room) word }
 {
     match word {
@@ -184,7 +184,7 @@ pub(crate) fn starts_expr(room: u32, word: Word) -> bool
 }
 
 /// Whether an argument may begin with the word.
-pub(crate) fn starts_arg(room: u32, word: Word) -> bool
+pub fn starts_arg(room: u32, word: Word) -> bool
     ensures { result ≡ ArgStarts (nat_lt 0 room) word }
 {
     match word {
@@ -194,7 +194,7 @@ pub(crate) fn starts_arg(room: u32, word: Word) -> bool
 }
 
 /// Whether a statement may begin with the word.
-pub(crate) fn starts_stmt(room: u32, word: Word) -> bool
+pub fn starts_stmt(room: u32, word: Word) -> bool
     ensures { result ≡ StmtStarts (nat_lt 0 room) word }
 {
     match word {
