@@ -1,3 +1,1 @@
-pub mod Rows
-pub mod Classes
-pub mod Made
+pub mod private

@@ -1,12 +1,13 @@
+//! The classes of terminals that the parser asks for, and with which terminals a rule may begin.
 ghost use Rattle.std.specs.Prelude.{◌≡◌, nat_lt};
-ghost use Rattle.vt_build.specs.Classes.{class_words};
+ghost use Rattle.vt_build.specs.private.Classes.{class_terminals};
 ghost use Rattle.vt_grammar.specs.Grammar.{is_literal, is_paren_open, is_list_open, is_sign, is_term_op, is_sum_op, is_comp_op, is_conj_op, is_disj_op, is_expr_op, is_set, is_condition, leads};
-ghost use Rattle.vt_grammar.specs.Sets.{ExprStarts, ArgStarts, StmtStarts};
+ghost use Rattle.vt_grammar.specs.private.Sets.{ExprStarts, ArgStarts, StmtStarts};
 
-use vt_grammar::Word;
+use vt_grammar::Terminal;
 
-/// A class of words.
-#[derive(Clone, Copy, Debug, PartialEq, Eq)]
+/// A class of terminals.
+#[derive(Clone, Copy)]
 pub enum Class {
     Literal,
     ParenOpen,
@@ -22,183 +23,189 @@ pub enum Class {
     Condition,
 }
 
-/// Whether the word is in the class.
-pub fn is_of(class: Class, word: Word) -> bool
-    ensures { result ≡ class_words class word }
+/// Whether the terminal is in the class.
+pub fn is_of(class: Class, terminal: Terminal) -> bool
+    ensures { result ≡ class_terminals class terminal }
 {
     match class {
-        Class::Literal => is_literal(word),
-        Class::ParenOpen => is_paren_open(word),
-        Class::ListOpen => is_list_open(word),
-        Class::Sign => is_sign(word),
-        Class::TermOp => is_term_op(word),
-        Class::SumOp => is_sum_op(word),
-        Class::CompOp => is_comp_op(word),
-        Class::ConjOp => is_conj_op(word),
-        Class::DisjOp => is_disj_op(word),
-        Class::ExprOp => is_expr_op(word),
-        Class::Set => is_set(word),
-        Class::Condition => is_condition(word),
+        Class::Literal => is_literal(terminal),
+        Class::ParenOpen => is_paren_open(terminal),
+        Class::ListOpen => is_list_open(terminal),
+        Class::Sign => is_sign(terminal),
+        Class::TermOp => is_term_op(terminal),
+        Class::SumOp => is_sum_op(terminal),
+        Class::CompOp => is_comp_op(terminal),
+        Class::ConjOp => is_conj_op(terminal),
+        Class::DisjOp => is_disj_op(terminal),
+        Class::ExprOp => is_expr_op(terminal),
+        Class::Set => is_set(terminal),
+        Class::Condition => is_condition(terminal),
     }
 }
 
-fn is_literal(word: Word) -> bool
-    ensures { result ≡ is_literal word }
+fn is_literal(terminal: Terminal) -> bool
+    ensures { result ≡ is_literal terminal }
 {
-    match word {
-        Word::Whole
-        | Word::Decimal
-        | Word::Text
-        | Word::Symbol
-        | Word::Nil
-        | Word::True
-        | Word::False => true,
+    match terminal {
+        Terminal::Whole
+        | Terminal::Decimal
+        | Terminal::Text
+        | Terminal::Symbol
+        | Terminal::Nil
+        | Terminal::True
+        | Terminal::False => true,
         _ => false,
     }
 }
 
-fn is_paren_open(word: Word) -> bool
-    ensures { result ≡ is_paren_open word }
+fn is_paren_open(terminal: Terminal) -> bool
+    ensures { result ≡ is_paren_open terminal }
 {
-    match word {
-        Word::CallOpen | Word::ParenOpen => true,
+    match terminal {
+        Terminal::CallOpen | Terminal::ParenOpen => true,
         _ => false,
     }
 }
 
-fn is_list_open(word: Word) -> bool
-    ensures { result ≡ is_list_open word }
+fn is_list_open(terminal: Terminal) -> bool
+    ensures { result ≡ is_list_open terminal }
 {
-    match word {
-        Word::IndexOpen | Word::ListOpen => true,
+    match terminal {
+        Terminal::IndexOpen | Terminal::ListOpen => true,
         _ => false,
     }
 }
 
-fn is_sign(word: Word) -> bool
-    ensures { result ≡ is_sign word }
+fn is_sign(terminal: Terminal) -> bool
+    ensures { result ≡ is_sign terminal }
 {
-    match word {
-        Word::Minus | Word::TightMinus | Word::Bang => true,
+    match terminal {
+        Terminal::Minus | Terminal::TightMinus | Terminal::Bang => true,
         _ => false,
     }
 }
 
-fn is_term_op(word: Word) -> bool
-    ensures { result ≡ is_term_op word }
+fn is_term_op(terminal: Terminal) -> bool
+    ensures { result ≡ is_term_op terminal }
 {
-    match word {
-        Word::Star | Word::Slash | Word::Percent => true,
+    match terminal {
+        Terminal::Star | Terminal::Slash | Terminal::Percent => true,
         _ => false,
     }
 }
 
-fn is_sum_op(word: Word) -> bool
-    ensures { result ≡ is_sum_op word }
+fn is_sum_op(terminal: Terminal) -> bool
+    ensures { result ≡ is_sum_op terminal }
 {
-    match word {
-        Word::Plus | Word::Minus | Word::TightMinus => true,
+    match terminal {
+        Terminal::Plus | Terminal::Minus | Terminal::TightMinus => true,
         _ => false,
     }
 }
 
-fn is_comp_op(word: Word) -> bool
-    ensures { result ≡ is_comp_op word }
+fn is_comp_op(terminal: Terminal) -> bool
+    ensures { result ≡ is_comp_op terminal }
 {
-    match word {
-        Word::Same | Word::Differs | Word::Below | Word::AtMost | Word::Above | Word::AtLeast =>
+    match terminal {
+        Terminal::Same
+        | Terminal::Differs
+        | Terminal::Below
+        | Terminal::AtMost
+        | Terminal::Above
+        | Terminal::AtLeast => true,
+        _ => false,
+    }
+}
+
+fn is_conj_op(terminal: Terminal) -> bool
+    ensures { result ≡ is_conj_op terminal }
+{
+    match terminal {
+        Terminal::Both => true,
+        _ => false,
+    }
+}
+
+fn is_disj_op(terminal: Terminal) -> bool
+    ensures { result ≡ is_disj_op terminal }
+{
+    match terminal {
+        Terminal::Either => true,
+        _ => false,
+    }
+}
+
+fn is_expr_op(terminal: Terminal) -> bool
+    ensures { result ≡ is_expr_op terminal }
+{
+    match terminal {
+        Terminal::And | Terminal::Or => true,
+        _ => false,
+    }
+}
+
+fn is_set(terminal: Terminal) -> bool
+    ensures { result ≡ is_set terminal }
+{
+    match terminal {
+        Terminal::Set | Terminal::SetPlus | Terminal::SetMinus | Terminal::SetTimes => true,
+        _ => false,
+    }
+}
+
+fn is_condition(terminal: Terminal) -> bool
+    ensures { result ≡ is_condition terminal }
+{
+    match terminal {
+        Terminal::If | Terminal::Unless => true,
+        _ => false,
+    }
+}
+
+/// Whether the terminal makes the name before it the head of a command, where a blank stands between them.
+pub fn leads(terminal: Terminal) -> bool
+    ensures { result ≡ leads terminal }
+{
+    match terminal {
+        Terminal::Name
+        | Terminal::Label
+        | Terminal::ListOpen
+        | Terminal::ParenOpen
+        | Terminal::Bang
+        | Terminal::TightMinus => true,
+        _ => is_literal(terminal),
+    }
+}
+
+/// Whether an expression may begin with the terminal, where so many more brackets and blocks may be opened.
+pub fn starts_expr(room: u32, terminal: Terminal) -> bool
+    ensures { result ≡ ExprStarts (nat_lt 0 room) terminal }
+{
+    match terminal {
+        Terminal::Not | Terminal::Minus | Terminal::TightMinus | Terminal::Bang | Terminal::Name =>
             true,
-        _ => false,
+        Terminal::CallOpen | Terminal::ParenOpen | Terminal::IndexOpen | Terminal::ListOpen => 0
+            < room,
+        _ => is_literal(terminal),
     }
 }
 
-fn is_conj_op(word: Word) -> bool
-    ensures { result ≡ is_conj_op word }
+/// Whether an argument may begin with the terminal.
+pub fn starts_arg(room: u32, terminal: Terminal) -> bool
+    ensures { result ≡ ArgStarts (nat_lt 0 room) terminal }
 {
-    match word {
-        Word::Both => true,
-        _ => false,
+    match terminal {
+        Terminal::Label => true,
+        _ => starts_expr(room, terminal),
     }
 }
 
-fn is_disj_op(word: Word) -> bool
-    ensures { result ≡ is_disj_op word }
+/// Whether a statement may begin with the terminal.
+pub fn starts_stmt(room: u32, terminal: Terminal) -> bool
+    ensures { result ≡ StmtStarts (nat_lt 0 room) terminal }
 {
-    match word {
-        Word::Either => true,
-        _ => false,
-    }
-}
-
-fn is_expr_op(word: Word) -> bool
-    ensures { result ≡ is_expr_op word }
-{
-    match word {
-        Word::And | Word::Or => true,
-        _ => false,
-    }
-}
-
-fn is_set(word: Word) -> bool
-    ensures { result ≡ is_set word }
-{
-    match word {
-        Word::Set | Word::SetPlus | Word::SetMinus | Word::SetTimes => true,
-        _ => false,
-    }
-}
-
-fn is_condition(word: Word) -> bool
-    ensures { result ≡ is_condition word }
-{
-    match word {
-        Word::If | Word::Unless => true,
-        _ => false,
-    }
-}
-
-/// Whether the word makes the name before it the head of a command, where a blank stands between them.
-pub fn leads(word: Word) -> bool
-    ensures { result ≡ leads word }
-{
-    match word {
-        Word::Name
-        | Word::Label
-        | Word::ListOpen
-        | Word::ParenOpen
-        | Word::Bang
-        | Word::TightMinus => true,
-        _ => is_literal(word),
-    }
-}
-
-/// Whether an expression may begin with the word, where so many more brackets and blocks may be opened.
-pub fn starts_expr(room: u32, word: Word) -> bool
-    ensures { result ≡ ExprStarts (nat_lt 0 room) word }
-{
-    match word {
-        Word::Not | Word::Minus | Word::TightMinus | Word::Bang | Word::Name => true,
-        Word::CallOpen | Word::ParenOpen | Word::IndexOpen | Word::ListOpen => 0 < room,
-        _ => is_literal(word),
-    }
-}
-
-/// Whether an argument may begin with the word.
-pub fn starts_arg(room: u32, word: Word) -> bool
-    ensures { result ≡ ArgStarts (nat_lt 0 room) word }
-{
-    match word {
-        Word::Label => true,
-        _ => starts_expr(room, word),
-    }
-}
-
-/// Whether a statement may begin with the word.
-pub fn starts_stmt(room: u32, word: Word) -> bool
-    ensures { result ≡ StmtStarts (nat_lt 0 room) word }
-{
-    match word {
-        Word::If | Word::Unless => 0 < room,
-        _ => starts_expr(room, word),
+    match terminal {
+        Terminal::If | Terminal::Unless => 0 < room,
+        _ => starts_expr(room, terminal),
     }
 }

@@ -1,8 +1,9 @@
+//! Why nothing was read.
 use std::alloc::AllocError;
 use vt_frac::NoMemory;
 
 /// Why nothing was read: the token where the parser stands goes on with nothing, or there is no memory.
-#[derive(Debug, Drop)]
+#[derive(Drop)]
 pub enum Fault {
     Here,
     NoMemory,

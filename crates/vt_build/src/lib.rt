@@ -1,20 +1,29 @@
-//! The words of tokens, and the parts of a tree that a parser makes of them, as the grammar says.
+//! The terminals of tokens, and the parts of a tree that a parser makes of them, as the grammar says.
 #![tactic(auto)]
 
+mod calls;
 mod classes;
+mod expressions;
 mod fault;
 mod literals;
-mod make;
-mod words;
+mod names;
+mod statements;
+mod terminals;
 
+pub use calls::{
+    Argument, add_argument, arguments_of, first_argument, has_label, labels_begun, make_argument,
+    make_command, make_dot, make_named,
+};
 pub use classes::{Class, is_of, leads, starts_arg, starts_expr, starts_stmt};
+pub use expressions::{
+    add_item, first_item, is_bare_get, left_after, list_tree, make_chain, make_comparison,
+    make_link, make_part, make_unary, wrapped,
+};
 pub use fault::Fault;
 pub use literals::make_literal;
-pub use make::{
-    Argument, add_argument, add_present, arguments_of, first_argument, first_arm, first_item,
-    first_name, first_stmts, has_label, is_bare_get, is_unless, labels_begun, left_after,
-    list_tree, make_argument, make_arm, make_assign, make_block, make_chain, make_command,
-    make_comparison, make_dot, make_link, make_named, make_part, make_stmt, make_unary,
-    make_with_block, name_of, takes_block, wrapped,
+pub use names::{first_name, name_of};
+pub use statements::{
+    add_present, first_arm, first_stmts, is_unless, make_arm, make_assign, make_block, make_iff,
+    make_stmt, make_value, make_with_block, takes_block,
 };
-pub use words::{number_with, same, word_at};
+pub use terminals::{number_with, same, terminal_at};

@@ -1,18 +1,21 @@
+//! The values of tokens that stand for themselves.
 ghost use Rattle.std.specs.Prelude.{◌≡◌, ◌<◌, ◌^◌, pos};
 ghost use Rattle.std.specs.Str.Parse.{AllDigits, digits_value, digits_value_after};
-ghost use Rattle.vt_build.specs.Made.{Makes};
+ghost use Rattle.vt_build.specs.private.Made.{Makes};
 ghost use Rattle.vt_grammar.specs.Trees.{plain};
 ghost use Rattle.vt_grammar.specs.Values.{HasValue, fraction_of, literal_at, symbol_name};
 ghost use Rattle.vt_frac.specs.Decimal.{decimal_of};
 ghost use Rattle.vt_lex.specs.Numbers.{decimal_fits};
 ghost use Rattle.vt_tree.specs.declared.expression.Node.TheVariants as nodes;
-ghost use Rattle.vt_grammar.specs.declared.words.Word.TheVariants as Word;
+ghost use Rattle.vt_grammar.specs.declared.terminals.Terminal.TheVariants as Terminal;
 
+use crate::expressions::plain;
 use crate::fault::Fault;
-use crate::make::{name_of, plain};
+use crate::names::name_of;
+use sqlite_items::Boxed;
 use std::alloc::Global;
 use vt_frac::Frac;
-use vt_grammar::Word;
+use vt_grammar::Terminal;
 use vt_lex::text_value;
 use vt_tree::{Expr, Literal, Node};
 
@@ -37,7 +40,7 @@ fn whole_value(digits: &[u8]) -> i64
 }
 
 fn decimal_value(bytes: &[u8]) -> Frac
-    requires { HasValue Word.Decimal bytes.now }
+    requires { HasValue Terminal.Decimal bytes.now }
     ensures { result ≡ fraction_of (decimal_of bytes.now) }
 {
     match Frac::read_decimal(bytes) {
@@ -56,32 +59,32 @@ fn symbol_name(symbol: &[u8]) -> &[u8]
     }
 }
 
-fn literal_value(alloc: Global, word: Word, bytes: &[u8]) -> Result<Literal, Fault>
-    requires { HasValue word bytes.now }
-    ensures { Makes (literal_at word bytes.now) result }
+fn literal_value(alloc: Global, terminal: Terminal, bytes: &[u8]) -> Result<Literal, Fault>
+    requires { HasValue terminal bytes.now }
+    ensures { Makes (literal_at terminal bytes.now) result }
 {
-    match word {
-        Word::Whole => Ok(Literal::Whole(whole_value(bytes))),
-        Word::Decimal => Ok(Literal::Decimal(decimal_value(bytes))),
-        Word::Text => {
+    match terminal {
+        Terminal::Whole => Ok(Literal::Whole(whole_value(bytes))),
+        Terminal::Decimal => Ok(Literal::Decimal(decimal_value(bytes))),
+        Terminal::Text => {
             let value = text_value(alloc, bytes)?;
             Ok(Literal::Text(value))
         }
-        Word::Symbol => {
+        Terminal::Symbol => {
             let name = name_of(alloc, symbol_name(bytes))?;
             Ok(Literal::Sym(name))
         }
-        Word::True => Ok(Literal::Bool(true)),
-        Word::False => Ok(Literal::Bool(false)),
+        Terminal::True => Ok(Literal::Bool(true)),
+        Terminal::False => Ok(Literal::Bool(false)),
         _ => Ok(Literal::Nil),
     }
 }
 
 /// The literal that a token with these bytes is.
-pub fn make_literal(alloc: Global, word: Word, bytes: &[u8]) -> Result<Expr, Fault>
-    requires { HasValue word bytes.now }
-    ensures { Makes (plain (nodes.Literal (literal_at word bytes.now))) result }
+pub fn make_literal(alloc: Global, terminal: Terminal, bytes: &[u8]) -> Result<Boxed<Expr>, Fault>
+    requires { HasValue terminal bytes.now }
+    ensures { Makes (plain (nodes.Literal (literal_at terminal bytes.now))) result }
 {
-    let value = literal_value(alloc, word, bytes)?;
-    Ok(plain(Node::Literal(value)))
+    let value = literal_value(alloc, terminal, bytes)?;
+    plain(alloc, Node::Literal(value))
 }

@@ -9,8 +9,9 @@ use Rattle.vt_tree.specs.Parts.{blocks, children, in_block, in_text, whole_block
 use Rattle.vt_tree.specs.WellFormed.{IsNumbered}
 use Rattle.vt_check.specs.declared.fault.CheckFault.{CheckFault}
 use Rattle.vt_check.specs.declared.fault.CheckFault.TheVariants.{At, NoMemory}
-use Rattle.vt_check.specs.Checked.{block_with, Finds, IsCause, IsSoundBlock}
-use Rattle.vt_check.specs.Judging.{Judges}
+use Rattle.vt_check.specs.Checked.{IsCause, IsSoundBlock}
+use Rattle.vt_check.specs.private.Finding.{block_with, Finds}
+use Rattle.vt_check.specs.private.Judging.{Judges}
 use Rattle.vt_check.specs.Verdict.{IsAllowed, CheckRefuses}
 
 pub allowed_by : {U : Type 0} (tree : Block) (u : U) → Judges (in_block tree in_text) (Ok u) → IsAllowed tree

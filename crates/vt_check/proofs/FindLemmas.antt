@@ -5,7 +5,7 @@ use Rattle.std.proofs.lemmas.List.Elements.{All-cons, All-head, All-nil, All-tai
 use Rattle.std.proofs.lemmas.Bool.{eq-eqb, ne_eqb}
 use Rattle.vt_tree.specs.declared.statement.Block.{Block, out-Block}
 use Rattle.vt_tree.specs.Parts.{Part, called, opened, Place, Walk, Site, blocks_of, each, in_block, sites_of}
-use Rattle.vt_check.specs.Checked.{block_with, Finds}
+use Rattle.vt_check.specs.private.Finding.{block_with, Finds}
 use Rattle.vt_check.specs.Verdict.{IsSound}
 use Rattle.vt_check.proofs.JudgingLemmas.{drop_item, drop_past, sites_of-append}
 
@@ -14,10 +14,10 @@ blocks_of-append [] b = refl
 blocks_of-append (called s ∷ a) b = blocks_of-append a b
 blocks_of-append (opened k ∷ a) b = ap (λ rest. k ∷ rest) (blocks_of-append a b)
 
--- the calls of a front, and of what follows it
-sound_front : (a b : List Site) → All IsSound (a ++ b) → All IsSound a
-sound_front [] b h = All-nil IsSound
-sound_front (x ∷ a) b h = All-cons IsSound x a (All-head IsSound x (a ++ b) h) (sound_front a b (All-tail IsSound x (a ++ b) h))
+-- the calls of a prefix, and of what follows it
+sound_prefix : (a b : List Site) → All IsSound (a ++ b) → All IsSound a
+sound_prefix [] b h = All-nil IsSound
+sound_prefix (x ∷ a) b h = All-cons IsSound x a (All-head IsSound x (a ++ b) h) (sound_prefix a b (All-tail IsSound x (a ++ b) h))
 
 sound_back : (a b : List Site) → All IsSound (a ++ b) → All IsSound b
 sound_back [] b h = h
@@ -54,7 +54,7 @@ pub finds_nothing : (n : ℕ) → Finds n (λ p. []) None
 finds_nothing n = record { by = λ p. refl; sound = λ p a. tt }
 
 pub finds_first : {n : ℕ} {f : Walk} {x : Block} (g : Walk) → Finds n f (Some x) → Finds n (λ p. f p ++ g p) (Some x)
-finds_first {n} {f} {x} g h = record { by = λ p. sym (ap (block_with n) (blocks_of-append (f p) (g p)) ∙ with_some n x (blocks_of (f p)) (blocks_of (g p)) (sym (h.by p))); sound = λ p a. h.sound p (sound_front (sites_of (f p)) (sites_of (g p)) (split_sites (f p) (g p) a)) }
+finds_first {n} {f} {x} g h = record { by = λ p. sym (ap (block_with n) (blocks_of-append (f p) (g p)) ∙ with_some n x (blocks_of (f p)) (blocks_of (g p)) (sym (h.by p))); sound = λ p a. h.sound p (sound_prefix (sites_of (f p)) (sites_of (g p)) (split_sites (f p) (g p) a)) }
 
 pub finds_then : {n : ℕ} {f g : Walk} {o : Option Block} → Finds n f None → Finds n g o → Finds n (λ p. f p ++ g p) o
 finds_then {n} {f} {g} h k = record { by = λ p. k.by p ∙ sym (ap (block_with n) (blocks_of-append (f p) (g p)) ∙ with_none n (blocks_of (f p)) (blocks_of (g p)) (sym (h.by p))); sound = λ p a. k.sound p (sound_back (sites_of (f p)) (sites_of (g p)) (split_sites (f p) (g p) a)) }

@@ -2,7 +2,7 @@
 use Rattle.std.proofs.Common.{◌≡◌, ◌↔◌, ℕ, ◌+◌, ◌<◌, ◌≤◌, ◌⊎◌, inl, inr, List, [], ◌∷◌, length, get_or, drop, Bool, true, false, not, IsTrue, Option, Some, Result, Ok, Err, IfOk, refl, sym, ap, ◌∙◌, subst, true≢false}
 use Rattle.std.specs.Prelude.{slice_get}
 use Rattle.std.specs.Bool.{MatchBool}
-use Rattle.vt_tree.specs.Forms.{is_symbol_name}
+use Rattle.vt_frac.specs.Names.{is_symbol_name}
 use Rattle.vt_tree.specs.declared.expression.Expr.{Expr}
 use Rattle.vt_check.specs.Written.{first_of}
 use Rattle.vt_check.specs.Conditions.{begins_with_slash, IsRefused, IsRefusedOption, first_text, HasRefusedOption, IfText}
@@ -37,11 +37,11 @@ under_label P b o o' (Err x) e f h = tt
 
 -- what is left of the options says whether one is refused
 pub record Rest (IsGood : List ℕ → Type 0) (label : List ℕ) (options : List (List ℕ × Expr)) (i : ℕ) : Type 0 where
-  pub front : HasRefusedOption IsGood label (drop i options) → HasRefusedOption IsGood label options
+  pub forth : HasRefusedOption IsGood label (drop i options) → HasRefusedOption IsGood label options
   pub back : HasRefusedOption IsGood label options → HasRefusedOption IsGood label (drop i options)
 
 pub rest_all : (IsGood : List ℕ → Type 0) (label : List ℕ) (options : List (List ℕ × Expr)) → Rest IsGood label options 0
-rest_all IsGood label options = record { front = λ h. h; back = λ h. h }
+rest_all IsGood label options = record { forth = λ h. h; back = λ h. h }
 
 or_else : {A B : Type 0} → (A → ⊥) → A ⊎ B → B
 or_else h (inl a) = absurd (h a)
@@ -52,14 +52,14 @@ rest_next IsGood label options i x b rest lt is other iff =
     let P : List (List ℕ × Expr) → Type 0 = λ xs. HasRefusedOption IsGood label xs in
     let e = drop_item options i x lt is in
     record {
-      front = λ h. rest.front (subst P (sym e) (inr h));
+      forth = λ h. rest.forth (subst P (sym e) (inr h));
       back = λ h. or_else (λ r. true≢false (sym (iff.1 r) ∙ other)) (subst P e (rest.back h));
     }
 
 pub rest_found : (IsGood : List ℕ → Type 0) (label : List ℕ) (options : List (List ℕ × Expr)) (i : ℕ) (x : List ℕ × Expr) (b : Bool) → Rest IsGood label options i → i < length options → x ≡ get_or options i x → b ≡ true → IsTrue b ↔ IsRefusedOption IsGood label x → IsTrue true ↔ HasRefusedOption IsGood label options
 rest_found IsGood label options i x b rest lt is here iff =
     let P : List (List ℕ × Expr) → Type 0 = λ xs. HasRefusedOption IsGood label xs in
-    (λ t. rest.front (subst P (sym (drop_item options i x lt is)) (inl (iff.0 here))), λ h. refl)
+    (λ t. rest.forth (subst P (sym (drop_item options i x lt is)) (inl (iff.0 here))), λ h. refl)
 
 pub rest_none : (IsGood : List ℕ → Type 0) (label : List ℕ) (options : List (List ℕ × Expr)) (i : ℕ) → Rest IsGood label options i → length options ≤ i → IsTrue false ↔ HasRefusedOption IsGood label options
 rest_none IsGood label options i rest le =

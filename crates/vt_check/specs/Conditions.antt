@@ -10,7 +10,7 @@ use Rattle.vt_table.specs.declared.calls.Need.{Need}
 use Rattle.vt_table.specs.declared.calls.Need.TheVariants.{None as Without, Must, May}
 use Rattle.vt_tree.specs.declared.expression.Expr.{Expr}
 use Rattle.vt_tree.specs.declared.statement.Block.{Block, out-Block}
-use Rattle.vt_tree.specs.Forms.{is_symbol_name}
+use Rattle.vt_frac.specs.Names.{is_symbol_name}
 use Rattle.vt_tree.specs.Parts.{Site}
 use Rattle.vt_check.specs.Written.{is_call, is_among, row_of, args_of, options_of, block_of, has_arguments, is_written_out, count_of, symbol_of, text_of, first_of, has_twice, methods}
 

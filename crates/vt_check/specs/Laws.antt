@@ -1,7 +1,8 @@
 -- The laws of the checks.
-use Rattle.std.specs.Prelude.{◌≡◌, ◌⊎◌, ℕ}
+use Rattle.std.specs.Prelude.{◌≡◌, ℕ}
 use Rattle.vt_tree.specs.declared.statement.Block.{Block}
 use Rattle.vt_check.specs.declared.fault.CheckKind.{CheckKind}
+use Rattle.vt_check.specs.Judged.{IsJudged}
 use Rattle.vt_check.specs.Verdict.{IsAllowed, CheckRefuses}
 
 -- no tree is both allowed and refused
@@ -14,4 +15,4 @@ OneFault = (tree : Block) (line line' : ℕ) (kind kind' : CheckKind) → CheckR
 
 -- a tree is allowed, or refused for a fault
 abbrev pub AlwaysOne : Type 0
-AlwaysOne = (tree : Block) → IsAllowed tree ⊎ ((line : ℕ) × (kind : CheckKind) × CheckRefuses tree line kind)
+AlwaysOne = (tree : Block) → IsJudged tree

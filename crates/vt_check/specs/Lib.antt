@@ -1,7 +1,8 @@
 pub mod Checked
 pub mod Conditions
+pub mod Faults
 pub mod Judged
-pub mod Judging
 pub mod Laws
 pub mod Verdict
 pub mod Written
+pub mod private

@@ -1,3 +1,5 @@
+//! Trees that passed the checks, and their blocks.
+
 ghost use Rattle.std.specs.Prelude.{◌≡◌, option_copied, IfErr, IfOk, IfSome, OnOk};
 ghost use Rattle.vt_tree.specs.WellFormed.{IsWellFormed};
 ghost use Rattle.vt_check.specs.Checked.{IsCause};

@@ -4,11 +4,11 @@ ghost use Rattle.std.specs.Prelude.{◌≡◌, ◌+◌, ◌^◌, ◌<◌, ◌||�
 ghost use Rattle.std.specs.List.{list_any};
 ghost use Rattle.vt_path.specs.Path.{IsPathText};
 ghost use Rattle.vt_path.specs.Pattern.{IsPatternText};
-ghost use Rattle.vt_tree.specs.Forms.{is_name_byte, is_symbol_name};
+ghost use Rattle.vt_frac.specs.Names.{is_symbol_name};
 ghost use Rattle.vt_tree.specs.declared.expression.Call.{out-Call};
 ghost use Rattle.vt_check.specs.Written.{is_among, row_of};
 ghost use Rattle.vt_check.specs.Conditions.{given_by, has_bad_option, has_label_without_symbol, has_wrong_block, has_wrong_params, is_misplaced, is_miscounted, is_misnamed, is_no_method, is_other_than_symbol, is_table_symbol, is_taken, most_of, open_calls, single_options, takes_option};
-ghost use Rattle.vt_check.specs.Judging.{site_of};
+ghost use Rattle.vt_check.specs.private.Judging.{site_of};
 
 use crate::place::Place;
 use crate::written::{

@@ -1,37 +1,66 @@
+//! The faults of a tree that is not allowed.
+
+ghost use Rattle.std.specs.Prelude.{◌≡◌};
+ghost use Rattle.vt_check.specs.Faults.{check_word};
+
+use std::fmt;
 use thiserror::Error;
 use vt_frac::NoMemory;
 
 /// What a check refuses, in the order in which the checks are answered at one call.
-#[derive(Clone, Copy, Debug, PartialEq, Eq, Error)]
+#[derive(Clone, Copy, Debug, PartialEq, Eq)]
 pub enum CheckKind {
     /// `define` elsewhere than as a statement of the text itself.
-    #[error("define_place")]
     DefinePlace,
     /// A name that is no literal symbol.
-    #[error("name")]
     Name,
     /// `define` of a name of the call table.
-    #[error("taken")]
     Taken,
     /// A name after a dot that may not stand there, or one that must.
-    #[error("method")]
     Method,
     /// Too few or too many arguments.
-    #[error("count")]
     Count,
     /// An option that the call does not take, or one given twice.
-    #[error("option")]
     Opt,
     /// A block that is missing, or that may not be there.
-    #[error("block")]
     Block,
     /// Too many parameters, or two of one name.
-    #[error("params")]
     Params,
     /// A literal text that is no path or pattern.
-    #[error("path")]
     Path,
 }
+
+impl CheckKind {
+    /// Its word in a verdict.
+    pub fn word(self) -> &'static str
+        ensures { result.now ≡ check_word self }
+    {
+        match self {
+            CheckKind::DefinePlace => "define_place",
+            CheckKind::Name => "name",
+            CheckKind::Taken => "taken",
+            CheckKind::Method => "method",
+            CheckKind::Count => "count",
+            CheckKind::Opt => "option",
+            CheckKind::Block => "block",
+            CheckKind::Params => "params",
+            CheckKind::Path => "path",
+        }
+    }
+}
+
+impl fmt::Display for CheckKind {
+    ghost use Rattle.std.specs.Prelude.{Some};
+    ghost use Rattle.vt_check.specs.Faults.{check_word};
+
+    ghost output = { λ kind. Some (check_word kind) };
+
+    fn fmt<W: fmt::Write>(&self, f: &mut fmt::Formatter<W>) -> fmt::Result {
+        f.write_str(self.word())
+    }
+}
+
+impl std::error::Error for CheckKind {}
 
 /// Why a tree is not checked.
 #[derive(Clone, Copy, Debug, PartialEq, Eq, Error)]

@@ -2,7 +2,7 @@
 
 ghost use Rattle.std.specs.Prelude.{option_copied};
 ghost use Rattle.vt_tree.specs.Parts.{children, each, in_arm, in_call, in_expr, in_form, in_link, in_node, in_simple, in_stmt, whole_block};
-ghost use Rattle.vt_check.specs.Checked.{Finds};
+ghost use Rattle.vt_check.specs.private.Finding.{Finds};
 
 use vt_frac::Name;
 use vt_tree::{Arm, Block, Call, Expr, Link, Node, Simple, Stmt, StmtForm};

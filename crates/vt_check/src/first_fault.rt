@@ -1,7 +1,7 @@
 //! The fault of one call.
 
 ghost use Rattle.std.specs.Prelude.{IfOk};
-ghost use Rattle.vt_check.specs.Judging.{JudgesCall, site_of};
+ghost use Rattle.vt_check.specs.private.Judging.{JudgesCall, site_of};
 
 use crate::conditions::{
     has_bad_option, has_wrong_block, has_wrong_params, is_miscounted, is_misnamed, is_misplaced,

@@ -18,8 +18,8 @@ pub fn always_one()
     ensures { AlwaysOne }
 {}
 
-/// `judged_of` of a tree is that it is allowed exactly where it is, and a line and a kind exactly where it is refused for
-/// them.
+/// However a tree was judged, its verdict is that it is allowed exactly where it is, and a line and a kind exactly where it is
+/// refused for them.
 pub fn verdict_law()
     ensures allowed { IsAllowedWhereAllowed }
     ensures refused { IsRefusedWhereRefused }

@@ -9,8 +9,6 @@ mod first_fault;
 mod laws;
 mod paths;
 mod place;
-#[cfg(test)]
-mod tests;
 mod walk;
 mod written;
 

@@ -1,24 +1,20 @@
 //! Literal texts that stand for paths and patterns.
 
-ghost use Rattle.std.specs.Prelude.{◌≡◌, ◌∷◌, [], ◌↔◌, ◌||◌, codes, option_copied, IfOk, IsTrue};
+ghost use Rattle.std.specs.Prelude.{◌≡◌, ◌∷◌, [], ◌↔◌, codes, option_copied, IfOk, IsTrue};
 ghost use Rattle.std.specs.Bool.{MatchBool};
-ghost use Rattle.std.specs.List.{list_all};
 ghost use Rattle.vt_path.specs.Path.{IsPathText};
 ghost use Rattle.vt_path.specs.Pattern.{IsPatternText};
-ghost use Rattle.vt_tree.specs.Forms.{begins, is_name_byte, is_large_letter, is_small_letter, is_symbol_name, is_underscore};
+ghost use Rattle.vt_frac.specs.Names.{is_symbol_name};
 ghost use Rattle.vt_check.specs.Written.{is_among};
 ghost use Rattle.vt_check.specs.Conditions.{begins_with_slash, first_text, HasRefusedOption, HasRefusedPath, IfText, IsRefused, IsRefusedOption};
-ghost use Rattle.vt_check.specs.Judging.{site_of};
+ghost use Rattle.vt_check.specs.private.Judging.{site_of};
 
 use crate::place::Place;
 use crate::written::{is_named, text_of};
 use std::alloc::Global;
-use vt_frac::{Name, NoMemory};
+use vt_frac::{Name, NoMemory, is_symbol_name};
 use vt_path::{PathFault, parse_path, parse_pattern};
 use vt_tree::{Call, Expr};
-
-/// The longest name of a symbol, in bytes.
-const MOST_BYTES: usize = 64;
 
 /// A literal text that must stand for a path or a pattern is refused.
 #[tactic(auto, unfolding(crate::specs::Conditions::HasRefusedPath))]
@@ -152,45 +148,4 @@ fn begins_with_slash(text: &[u8]) -> bool
         [] => false,
         [first, ..] => *first == b'/',
     }
-}
-
-/// A letter or `_`, and then letters, digits and `_`, at most 64 bytes in all.
-#[tactic(auto, unfolding(vt_tree::specs::Forms::is_symbol_name))]
-fn is_symbol_name(text: &[u8]) -> bool
-    ensures { result ≡ is_symbol_name text.now }
-{
-    begins_symbol(text) && are_name_bytes(text) && text.len() <= MOST_BYTES
-}
-
-fn begins_symbol(text: &[u8]) -> bool
-    ensures { result ≡ begins (λ b. is_small_letter b || is_large_letter b || is_underscore b) text.now }
-{
-    match text {
-        [] => false,
-        [first, ..] => is_small_letter(*first) || is_large_letter(*first) || *first == b'_',
-    }
-}
-
-fn are_name_bytes(text: &[u8]) -> bool
-    ensures { result ≡ list_all is_name_byte text.now }
-{
-    text.iter().all(|byte| is_name_byte(*byte))
-}
-
-fn is_name_byte(byte: u8) -> bool
-    ensures { result ≡ is_name_byte byte }
-{
-    is_small_letter(byte) || is_large_letter(byte) || (b'0' <= byte && byte <= b'9') || byte == b'_'
-}
-
-fn is_small_letter(byte: u8) -> bool
-    ensures { result ≡ is_small_letter byte }
-{
-    b'a' <= byte && byte <= b'z'
-}
-
-fn is_large_letter(byte: u8) -> bool
-    ensures { result ≡ is_large_letter byte }
-{
-    b'A' <= byte && byte <= b'Z'
 }

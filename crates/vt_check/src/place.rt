@@ -1,9 +1,12 @@
+//! Where a part of a tree stands.
+
 ghost use Rattle.std.specs.Prelude.{◌≡◌};
 ghost use Rattle.vt_tree.specs.Parts.{after_dot, at_line, in_text, inside};
-ghost use Rattle.vt_check.specs.Judging.{place_of};
 
-/// Where a part of a tree stands.
-#[derive(Clone, Copy, Debug)]
+use std::marker::Model;
+
+/// Where a part of a tree stands. Contracts see it as the definitions do.
+#[derive(Clone, Copy)]
 pub(crate) struct Place {
     /// The line of the innermost statement round it.
     pub(crate) line: u32,
@@ -13,10 +16,20 @@ pub(crate) struct Place {
     pub(crate) dotted: bool,
 }
 
+impl Model for Place {
+    ghost use Rattle.vt_tree.specs.Parts.{Place as PartPlace};
+
+    ghost Value = { PartPlace };
+
+    ghost view = { λ p. record { line = p.line; outermost = p.outermost; dotted = p.dotted } };
+
+    ghost inverse = { λ p. record { line = p.line; outermost = p.outermost; dotted = p.dotted } };
+}
+
 impl Place {
     /// Where the statements of the text itself stand.
     pub(crate) fn of_text() -> Place
-        ensures { place_of result ≡ in_text }
+        ensures { result ≡ in_text }
     {
         Place {
             line: 0,
@@ -26,7 +39,7 @@ impl Place {
     }
 
     pub(crate) fn inside(self) -> Place
-        ensures { place_of result ≡ inside (place_of self) }
+        ensures { result ≡ inside self }
     {
         Place {
             line: self.line,
@@ -36,7 +49,7 @@ impl Place {
     }
 
     pub(crate) fn after_dot(self) -> Place
-        ensures { place_of result ≡ after_dot (place_of self) }
+        ensures { result ≡ after_dot self }
     {
         Place {
             line: self.line,
@@ -47,7 +60,7 @@ impl Place {
 
     /// A statement here that begins on this line.
     pub(crate) fn at_line(self, line: u32) -> Place
-        ensures { place_of result ≡ at_line line (place_of self) }
+        ensures { result ≡ at_line line self }
     {
         Place {
             line,

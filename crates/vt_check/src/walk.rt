@@ -1,5 +1,7 @@
+//! The first fault of a tree, by a walk over its parts.
+
 ghost use Rattle.vt_tree.specs.Parts.{each, children, in_arm, in_block, in_call, in_expr, in_link, in_node, in_simple, in_form, in_stmt, if_there, site, whole_block, inside};
-ghost use Rattle.vt_check.specs.Judging.{Judges, place_of};
+ghost use Rattle.vt_check.specs.private.Judging.{Judges};
 
 use crate::fault::CheckFault;
 use crate::first_fault::fault_of;
@@ -11,14 +13,14 @@ use vt_tree::{Arm, Block, Call, Expr, Link, Node, Simple, Stmt, StmtForm};
 /// The calls of a block's statements.
 #[cycle(walk)]
 pub(crate) fn check_block(alloc: Global, block: &Block, place: Place) -> Result<(), CheckFault>
-    ensures { Judges (in_block block.now (place_of place)) result }
+    ensures { Judges (in_block block.now place) result }
 {
     check_stmts(alloc, block.stmts.as_slice(), place)
 }
 
 #[cycle(walk)]
 fn check_stmts(alloc: Global, stmts: &[Stmt], place: Place) -> Result<(), CheckFault>
-    ensures { Judges (each in_stmt stmts.now (place_of place)) result }
+    ensures { Judges (each in_stmt stmts.now place) result }
 {
     for stmt in stmts {
         check_stmt(alloc, stmt, place)?;
@@ -28,14 +30,14 @@ fn check_stmts(alloc: Global, stmts: &[Stmt], place: Place) -> Result<(), CheckF
 
 #[cycle(walk)]
 fn check_stmt(alloc: Global, stmt: &Stmt, place: Place) -> Result<(), CheckFault>
-    ensures { Judges (in_stmt stmt.now (place_of place)) result }
+    ensures { Judges (in_stmt stmt.now place) result }
 {
     check_form(alloc, &stmt.form, place.at_line(stmt.line))
 }
 
 #[cycle(walk)]
 fn check_form(alloc: Global, form: &StmtForm, place: Place) -> Result<(), CheckFault>
-    ensures { Judges (in_form form.now (place_of place)) result }
+    ensures { Judges (in_form form.now place) result }
 {
     match form {
         StmtForm::Plain(simple) => check_simple(alloc, simple, place),
@@ -48,7 +50,7 @@ fn check_form(alloc: Global, form: &StmtForm, place: Place) -> Result<(), CheckF
 
 #[cycle(walk)]
 fn check_simple(alloc: Global, simple: &Simple, place: Place) -> Result<(), CheckFault>
-    ensures { Judges (in_simple simple.now (place_of place)) result }
+    ensures { Judges (in_simple simple.now place) result }
 {
     match simple {
         Simple::Iff { arms, other } => {
@@ -65,7 +67,7 @@ fn check_simple(alloc: Global, simple: &Simple, place: Place) -> Result<(), Chec
 
 #[cycle(walk)]
 fn check_arms(alloc: Global, arms: &[Arm], place: Place) -> Result<(), CheckFault>
-    ensures { Judges (each in_arm arms.now (place_of place)) result }
+    ensures { Judges (each in_arm arms.now place) result }
 {
     for arm in arms {
         check_arm(alloc, arm, place)?;
@@ -75,7 +77,7 @@ fn check_arms(alloc: Global, arms: &[Arm], place: Place) -> Result<(), CheckFaul
 
 #[cycle(walk)]
 fn check_arm(alloc: Global, arm: &Arm, place: Place) -> Result<(), CheckFault>
-    ensures { Judges (in_arm arm.now (place_of place)) result }
+    ensures { Judges (in_arm arm.now place) result }
 {
     check_expr(alloc, &arm.cond, place)?;
     check_stmts(alloc, arm.stmts.as_slice(), place)
@@ -83,7 +85,7 @@ fn check_arm(alloc: Global, arm: &Arm, place: Place) -> Result<(), CheckFault>
 
 #[cycle(walk)]
 fn check_exprs(alloc: Global, exprs: &[Expr], place: Place) -> Result<(), CheckFault>
-    ensures { Judges (each in_expr exprs.now (place_of place)) result }
+    ensures { Judges (each in_expr exprs.now place) result }
 {
     for expr in exprs {
         check_expr(alloc, expr, place)?;
@@ -93,7 +95,7 @@ fn check_exprs(alloc: Global, exprs: &[Expr], place: Place) -> Result<(), CheckF
 
 #[cycle(walk)]
 fn check_options(alloc: Global, options: &[(Name, Expr)], place: Place) -> Result<(), CheckFault>
-    ensures { Judges (each (λ option. in_expr option.1) options.now (place_of place)) result }
+    ensures { Judges (each (λ option. in_expr option.1) options.now place) result }
 {
     for option in options {
         check_expr(alloc, &option.1, place)?;
@@ -103,7 +105,7 @@ fn check_options(alloc: Global, options: &[(Name, Expr)], place: Place) -> Resul
 
 #[cycle(walk)]
 fn check_links(alloc: Global, links: &[Link], place: Place) -> Result<(), CheckFault>
-    ensures { Judges (each in_link links.now (place_of place)) result }
+    ensures { Judges (each in_link links.now place) result }
 {
     for link in links {
         check_expr(alloc, &link.part, place)?;
@@ -113,14 +115,14 @@ fn check_links(alloc: Global, links: &[Link], place: Place) -> Result<(), CheckF
 
 #[cycle(walk)]
 fn check_expr(alloc: Global, expr: &Expr, place: Place) -> Result<(), CheckFault>
-    ensures { Judges (in_expr expr.now (place_of place)) result }
+    ensures { Judges (in_expr expr.now place) result }
 {
     check_node(alloc, &expr.node, place)
 }
 
 #[cycle(walk)]
 fn check_node(alloc: Global, node: &Node, place: Place) -> Result<(), CheckFault>
-    ensures { Judges (in_node node.now (place_of place)) result }
+    ensures { Judges (in_node node.now place) result }
 {
     match node {
         Node::Literal(_) => Ok(()),
@@ -146,7 +148,7 @@ fn check_node(alloc: Global, node: &Node, place: Place) -> Result<(), CheckFault
 /// A call, and then the calls in it.
 #[cycle(walk)]
 fn check_call(alloc: Global, call: &Call, place: Place) -> Result<(), CheckFault>
-    ensures { Judges (site children call.now (place_of place)) result }
+    ensures { Judges (site children call.now place) result }
 {
     let found = fault_of(alloc, call, place)?;
     match found {
@@ -161,7 +163,7 @@ fn check_call(alloc: Global, call: &Call, place: Place) -> Result<(), CheckFault
 /// The calls in a call: in its arguments, its options and its block.
 #[cycle(walk)]
 fn check_inside(alloc: Global, call: &Call, place: Place) -> Result<(), CheckFault>
-    ensures { Judges (in_call call.now (place_of place)) result }
+    ensures { Judges (in_call call.now place) result }
 {
     check_exprs(alloc, call.args.as_slice(), place.inside())?;
     check_options(alloc, call.options.as_slice(), place.inside())?;

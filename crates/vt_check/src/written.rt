@@ -4,7 +4,7 @@ ghost use Rattle.std.specs.Prelude.{◌≡◌, ◌+◌, ◌^◌, ◌<◌, ◌||�
 ghost use Rattle.std.specs.List.{list_any};
 ghost use Rattle.vt_tree.specs.declared.expression.Call.{out-Call};
 ghost use Rattle.vt_check.specs.Written.{first_of, has_arguments, has_twice, is_among, is_written_out, literal_of, methods, symbol_of, text_of};
-ghost use Rattle.vt_check.specs.Judging.{site_of};
+ghost use Rattle.vt_check.specs.private.Judging.{site_of};
 
 use crate::place::Place;
 use vt_frac::Name;

@@ -8,7 +8,7 @@ use Rattle.std.proofs.lemmas.List.Splits.{slice_split_first}
 use Rattle.std.proofs.Math.ListN.{drop_of_length-le}
 use Rattle.std.proofs.Math.Seq.{take-length}
 use Rattle.vt_cli.specs.Line.{is_blank, is_word, lines_of, words_of}
-use Rattle.vt_cli.specs.FirstPart.{BeginsWord, word_and_more}
+use Rattle.vt_cli.specs.private.FirstPart.{BeginsWord, word_and_more}
 
 pub tail-whole : (n : ℕ) (xs : List ℕ) → take (length xs - n) (drop n xs) ≡ drop n xs
 tail-whole n xs = ap (λ m. take m (drop n xs)) (sym (length-drop n xs)) ∙ take-length (drop n xs)

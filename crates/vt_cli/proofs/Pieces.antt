@@ -46,16 +46,16 @@ score-step lines i line within there =
     ∙ ap (λ before. line_score (take i lines) line (score_after before (drop (i + 1) lines)))
     (sym (take_more lines i line within ∙ ap (λ x. take i lines ++ x ∷ []) there))
 
-front-more : (lines : List Line) (i : ℕ) (line : Line) → i < length lines → get_or lines i line ≡ line → take (i + 1) lines ≡ take i lines ++ line ∷ []
-front-more lines i line within there = take_more lines i line within ∙ ap (λ x. take i lines ++ x ∷ []) there
+prefix-more : (lines : List Line) (i : ℕ) (line : Line) → i < length lines → get_or lines i line ≡ line → take (i + 1) lines ≡ take i lines ++ line ∷ []
+prefix-more lines i line within there = take_more lines i line within ∙ ap (λ x. take i lines ++ x ∷ []) there
 
-time-more : (before : List Line) (line : Line) → time_after (before ++ line ∷ []) ≡ fold sum_of (time_after before) (filter_map rest_of (line ∷ []))
+pub time-more : (before : List Line) (line : Line) → time_after (before ++ line ∷ []) ≡ fold sum_of (time_after before) (filter_map rest_of (line ∷ []))
 unfolding time_after
 time-more before line =
     ap (fold sum_of (whole (pos 0))) (filter_map-append rest_of before (line ∷ []))
     ∙ fold-append sum_of (whole (pos 0)) (filter_map rest_of before) (filter_map rest_of (line ∷ []))
 
-steps-more : (before : List Line) (line : Line) → count_by is_action (before ++ line ∷ []) ≡ count_by is_action before + count_by is_action (line ∷ [])
+pub steps-more : (before : List Line) (line : Line) → count_by is_action (before ++ line ∷ []) ≡ count_by is_action before + count_by is_action (line ∷ [])
 steps-more before line = sum_by-append (λ x. cond (is_action x) 1 0) before (line ∷ [])
 
 -- the item that stands at i is this line
@@ -73,12 +73,12 @@ played-silent lines i events time step line within at no_rest no_action silent s
   all = so_far.all ∙ ap (preceded events) (score-step lines i line within at ∙ silent _ _);
   time_is =
       so_far.time_is
-      ∙ sym (ap time_after (front-more lines i line within at) ∙ time-more (take i lines) line
+      ∙ sym (ap time_after (prefix-more lines i line within at) ∙ time-more (take i lines) line
       ∙ ap (λ rest. fold sum_of (time_after (take i lines)) (cons_option rest [])) no_rest);
   step_is =
       let single : count_by is_action (line ∷ []) ≡ 0 = ap (λ b. 0 + cond b 1 0) no_action in
       let more : count_by is_action (take (i + 1) lines) ≡ count_by is_action (take i lines) + count_by is_action (line ∷ []) =
-      ap (count_by is_action) (front-more lines i line within at) ∙ steps-more (take i lines) line in
+      ap (count_by is_action) (prefix-more lines i line within at) ∙ steps-more (take i lines) line in
       steps-same step (count_by is_action (take i lines)) _ _ so_far.step_is more single;
   few = let before : step ≤ i + 1 = so_far.few in omega (arith, before);
 }
@@ -92,10 +92,10 @@ played-note lines i events time step note within there so_far = record {
       ∙ ap (λ place. preceded events (preceded (note_event place note.number ∷ []) (score_after (take (i + 1) lines) (drop (i + 1) lines))))
       (sym (place-is (take i lines) time step so_far.time_is so_far.step_is))
       ∙ preceded-preceded events (note_event (place_at time step) note.number ∷ []) _;
-  time_is = so_far.time_is ∙ sym (ap time_after (front-more lines i (Play note) within there) ∙ time-more (take i lines) (Play note));
+  time_is = so_far.time_is ∙ sym (ap time_after (prefix-more lines i (Play note) within there) ∙ time-more (take i lines) (Play note));
   step_is =
       let more : count_by is_action (take (i + 1) lines) ≡ count_by is_action (take i lines) + 1 =
-      ap (count_by is_action) (front-more lines i (Play note) within there) ∙ steps-more (take i lines) (Play note) in
+      ap (count_by is_action) (prefix-more lines i (Play note) within there) ∙ steps-more (take i lines) (Play note) in
       let before : step ≡ count_by is_action (take i lines) + 1 = so_far.step_is in
       omega (arith, more, before);
   few = let before : step ≤ i + 1 = so_far.few in omega (arith, before);
@@ -131,10 +131,10 @@ played-rest lines i events time step amount later within there ends so_far = rec
   time_is =
       before-time (sum_of time amount) later ends
       ∙ ap (λ t. sum_of t amount) so_far.time_is
-      ∙ sym (ap time_after (front-more lines i (Sleep amount) within there) ∙ time-more (take i lines) (Sleep amount));
+      ∙ sym (ap time_after (prefix-more lines i (Sleep amount) within there) ∙ time-more (take i lines) (Sleep amount));
   step_is =
       let more : count_by is_action (take (i + 1) lines) ≡ count_by is_action (take i lines) + 1 =
-      ap (count_by is_action) (front-more lines i (Sleep amount) within there) ∙ steps-more (take i lines) (Sleep amount) in
+      ap (count_by is_action) (prefix-more lines i (Sleep amount) within there) ∙ steps-more (take i lines) (Sleep amount) in
       let before : step ≡ count_by is_action (take i lines) + 1 = so_far.step_is in
       omega (arith, more, before);
   few = let before : step ≤ i + 1 = so_far.few in omega (arith, before);
@@ -149,9 +149,9 @@ pub played-unfit : (lines : List Line) (i : ℕ) (events : List Event) (time : F
     → next_time_of (sum_of time amount) ≡ Unfit → Played lines i events time step
     → score_after [] lines ≡ preceded events (preceded (fault_event (place_at time step) Overflow (i + 1) ∷ []) ended)
 played-unfit lines i events time step amount within there ends so_far =
-    let front : length (take i lines) ≡ i = length-take-le i lines (omega (arith, within)) in
+    let prefix : length (take i lines) ≡ i = length-take-le i lines (omega (arith, within)) in
     rest-step lines i events time step amount Unfit within there ends so_far
-    ∙ ap (λ n. preceded events (preceded (fault_event (place_after (take i lines)) Overflow (n + 1) ∷ []) ended)) front
+    ∙ ap (λ n. preceded events (preceded (fault_event (place_after (take i lines)) Overflow (n + 1) ∷ []) ended)) prefix
     ∙ ap (λ place. preceded events (preceded (fault_event place Overflow (i + 1) ∷ []) ended))
     (sym (place-is (take i lines) time step so_far.time_is so_far.step_is))
 

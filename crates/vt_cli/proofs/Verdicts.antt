@@ -7,14 +7,16 @@ use Rattle.vt_lex.proofs.Uniqueness.{always as lexed_or_refused, lexed_or_refuse
 use Rattle.vt_tree.specs.declared.statement.Block.{Block}
 use Rattle.vt_grammar.specs.Tokens.{spelled}
 use Rattle.vt_grammar.specs.Text.{Reads, SyntaxRefuses}
-use Rattle.vt_grammar.specs.Verdict.{Parsed, Tree, Refused, parsed_of}
+use Rattle.vt_grammar.specs.Verdict.{Parsed, Tree, Refused}
+use Rattle.vt_grammar.proofs.Judging.{parsed_of}
 use Rattle.vt_grammar.proofs.VerdictLaws.{is_line, is_tree}
 use Rattle.vt_check.specs.declared.fault.CheckKind.{CheckKind}
-use Rattle.vt_check.specs.Judged.{Judged, Allowed, Refused as Faulty, judged_of}
+use Rattle.vt_check.specs.Judged.{Judged, Allowed, Refused as Faulty}
+use Rattle.vt_check.proofs.Judging.{judged_of}
 use Rattle.vt_check.specs.Verdict.{IsAllowed, CheckRefuses}
 use Rattle.vt_check.proofs.JudgedLemmas.{allowed_where_allowed, refused_where_refused}
-use Rattle.vt_cli.specs.declared.check.Verdict.{Verdict}
-use Rattle.vt_cli.specs.declared.check.Verdict.TheVariants.{Good, Lex, Syntax, Check}
+use Rattle.vt_cli.specs.declared.verdict.Verdict.{Verdict}
+use Rattle.vt_cli.specs.declared.verdict.Verdict.TheVariants.{Good, Lex, Syntax, Check}
 use Rattle.vt_cli.specs.Verdict.{judged_verdict, lexed_verdict, parsed_verdict, verdict_of}
 
 lex_by : (text : List ℕ) (line : ℕ) (kind : LexKind) (d : HasTokens text 1 ⊎ IsRefused text 1) → LexRefuses text 1 line kind

@@ -3,7 +3,7 @@ use Rattle.std.proofs.Common.{◌≡◌, ℕ, ◌==◌, List, [], ◌∷◌, tru
 use Rattle.std.proofs.lemmas.Grind.{common_steps}
 use Rattle.vt_cli.specs.declared.line.Line.TheVariants.{Nothing, Refused}
 use Rattle.vt_cli.specs.Line.{line_of, said, said_by_words, words_of}
-use Rattle.vt_cli.specs.FirstPart.{word_and_more}
+use Rattle.vt_cli.specs.private.FirstPart.{word_and_more}
 
 pub line-of-none : (line verb : List ℕ) (more : List (List ℕ)) → words_of line ≡ word_and_more verb more → (length verb == 0) ≡ true
     → Nothing ≡ line_of line

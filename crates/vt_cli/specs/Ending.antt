@@ -34,7 +34,7 @@ pub record ExactlyWhere (result status : Status) (cause : Type 0) : Type 0 where
   pub only : result ≡ status → cause
   pub always : cause → Yields result status
 
--- where a sink tells, it took a part of the text from its front, and not all of it
+-- where a sink tells, it took a proper prefix of the text
 abbrev pub AppendsPart : Option (List ℕ) → Option (List ℕ) → List ℕ → Type 0
 AppendsPart old new text = (n : ℕ) × (n < length text) × Appends old new (take n text)
 

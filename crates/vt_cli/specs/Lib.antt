@@ -1,7 +1,9 @@
-pub mod FirstPart
 pub mod Ending
+pub mod private
 pub mod Line
 pub mod Outcome
 pub mod Piece
 pub mod Reading
+pub mod ScoreLaws
 pub mod Verdict
+pub mod Words

@@ -12,7 +12,7 @@ use Rattle.vt_cli.specs.declared.status.Status.{Status}
 use Rattle.vt_cli.specs.declared.status.Status.TheVariants.{Fine, Usage, TooLong, Faulty}
 use Rattle.vt_cli.specs.Piece.{score_of}
 use Rattle.vt_cli.specs.Reading.{limit}
-use Rattle.vt_cli.specs.declared.check.Verdict.{Verdict}
+use Rattle.vt_cli.specs.declared.verdict.Verdict.{Verdict}
 use Rattle.vt_cli.specs.Verdict.{is_good, verdict_of, verdict_text}
 
 -- what a run comes to

@@ -1,18 +1,18 @@
 -- The verdict on a text: whether it can be read and is allowed, and else where it is refused. Own.
 use Rattle.std.specs.Prelude.{ℕ, ◌⊎◌, Bool, true, false, List, ◌++◌, codes, decimal}
 use Rattle.std.proofs.Common.{inl, inr}
-use Rattle.vt_lex.specs.declared.fault.LexKind.{LexKind}
-use Rattle.vt_lex.specs.declared.fault.LexKind.TheVariants.{Byte, Text, Number, Long}
+use Rattle.vt_lex.specs.Faults.{lex_word}
 use Rattle.vt_lex.specs.Lexing.{HasTokens, IsRefused}
 use Rattle.vt_lex.proofs.Uniqueness.{always as lexed_or_refused}
 use Rattle.vt_grammar.specs.Tokens.{spelled}
-use Rattle.vt_grammar.specs.Verdict.{Parsed, Tree, Refused, parsed_of}
-use Rattle.vt_check.specs.declared.fault.CheckKind.{CheckKind}
-use Rattle.vt_check.specs.declared.fault.CheckKind.TheVariants.{DefinePlace, Name, Taken, Method, Count, Opt, Block, Params, Path}
-use Rattle.vt_check.specs.Judged.{Judged, Allowed, Refused as Faulty, judged_of}
+use Rattle.vt_grammar.specs.Verdict.{Parsed, Tree, Refused}
+use Rattle.vt_grammar.proofs.Judging.{parsed_of}
+use Rattle.vt_check.specs.Faults.{check_word}
+use Rattle.vt_check.specs.Judged.{Judged, Allowed, Refused as Faulty}
+use Rattle.vt_check.proofs.Judging.{judged_of}
 use Rattle.vt_text.specs.ScoreText.{newline}
-use Rattle.vt_cli.specs.declared.check.Verdict.{Verdict}
-use Rattle.vt_cli.specs.declared.check.Verdict.TheVariants.{Good, Lex, Syntax, Check}
+use Rattle.vt_cli.specs.declared.verdict.Verdict.{Verdict}
+use Rattle.vt_cli.specs.declared.verdict.Verdict.TheVariants.{Good, Lex, Syntax, Check}
 
 -- what a tree that is allowed, or refused by a check, comes to
 abbrev pub judged_verdict : Judged → Verdict
@@ -38,25 +38,6 @@ is_good Good = true
 is_good (Lex line kind) = false
 is_good (Syntax line) = false
 is_good (Check line kind) = false
-
--- the word of a fault of the tokens
-abbrev pub lex_word : LexKind → List ℕ
-lex_word Byte = codes "byte"
-lex_word Text = codes "text"
-lex_word Number = codes "number"
-lex_word Long = codes "long"
-
--- the word of a check
-abbrev pub check_word : CheckKind → List ℕ
-check_word DefinePlace = codes "define_place"
-check_word Name = codes "name"
-check_word Taken = codes "taken"
-check_word Method = codes "method"
-check_word Count = codes "count"
-check_word Opt = codes "option"
-check_word Block = codes "block"
-check_word Params = codes "params"
-check_word Path = codes "path"
 
 -- the line that tells a verdict
 abbrev pub verdict_text : Verdict → List ℕ

@@ -1,16 +1,16 @@
-// What the words and the input come to, whole in memory.
+//! What the words and the input come to, whole in memory.
 ghost use Rattle.std.specs.Prelude.{◌≡◌, ◌≤◌, IfOk, length};
 ghost use Rattle.std.specs.List.{list_any};
-ghost use Rattle.vt_cli.specs.Outcome.{Reply, answer_to, is_fault, outcome_of};
+ghost use Rattle.vt_cli.specs.Outcome.{Reply, answer_to, is_fault, outcome_of, rendered};
 ghost use Rattle.vt_cli.specs.Reading.{limit};
 
-use crate::check::{verdict_of, verdict_text};
 use crate::piece::score_of;
 use crate::transfer::LIMIT;
+use crate::verdict::{verdict_of, verdict_text};
 use crate::{Command, Status};
 use std::alloc::Global;
 use std::marker::Model;
-use vt_event::{Event, Kind};
+use vt_event::{Event, Kind, Score};
 use vt_frac::NoMemory;
 use vt_text::score_text;
 
@@ -58,18 +58,24 @@ fn has_fault(events: &[Event]) -> bool
         .any(|event| matches!(event.kind(), Kind::Fault(_)))
 }
 
-fn render(alloc: Global, input: &[u8]) -> Result<Answer, NoMemory>
-    requires { length input.now ≤ limit }
-    ensures { IfOk result (λ answer. answer ≡ answer_to Command.Render input.now) }
+fn rendered(alloc: Global, score: &Score) -> Result<Answer, NoMemory>
+    ensures { IfOk result (λ answer. answer ≡ rendered score.now) }
 {
-    let score = score_of(alloc, input)?;
-    let text = score_text(alloc, &score)?;
+    let text = score_text(alloc, score)?;
     let status = if has_fault(score.events.as_slice()) {
         Status::Faulty
     } else {
         Status::Fine
     };
     Ok(Answer { status, text })
+}
+
+fn render(alloc: Global, input: &[u8]) -> Result<Answer, NoMemory>
+    requires { length input.now ≤ limit }
+    ensures { IfOk result (λ answer. answer ≡ answer_to Command.Render input.now) }
+{
+    let score = score_of(alloc, input)?;
+    rendered(alloc, &score)
 }
 
 fn check(alloc: Global, input: &[u8]) -> Result<Answer, NoMemory>

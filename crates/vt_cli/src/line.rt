@@ -1,24 +1,24 @@
-// The lines of a piece, and what each says.
+//! The lines of a piece, and what each says.
 ghost use Rattle.std.specs.Prelude.{◌≡◌, ◌+◌, ◌≤◌, ◌<◌, ◌∷◌, ◌++◌, [], length, map, not, position, vec_len, IfOk, IfSome};
 ghost use Rattle.std.specs.Option.{option_copied};
 ghost use Rattle.vt_cli.specs.Line.{is_blank, is_newline, line_of, lines_of, play_of, said, sleep_of, words_of};
 ghost use Rattle.std.specs.Char.{is_ascii_digit};
 ghost use Rattle.std.specs.List.{list_all};
 ghost use Rattle.vt_frac.specs.Decimal.{are_digits};
-ghost use Rattle.vt_cli.specs.FirstPart.{BeginsWord, line_and_more, word_and_more};
+ghost use Rattle.vt_cli.specs.private.FirstPart.{BeginsWord, line_and_more, word_and_more};
 
 use std::alloc::Global;
 use vt_frac::{DecimalFault, Frac, NoMemory};
 use vt_value::Integer;
 
 /// A note, by its number.
-#[derive(Clone, Copy, Debug, PartialEq, Eq)]
+#[derive(Clone, Copy)]
 pub struct Note {
     pub number: Integer,
 }
 
 /// What a line says.
-#[derive(Clone, Copy, Debug, PartialEq, Eq)]
+#[derive(Clone, Copy)]
 pub enum Line {
     Nothing,
     /// A note is played.

@@ -1,9 +1,9 @@
-//! The program: it renders a piece, and answers what the virtual-time meaning of the piece says.
+//! The program: it renders a piece, or tells whether a text is read and allowed, as its words say.
 #![tactic(auto)]
 
 mod answer;
-mod check;
 mod command;
+mod laws;
 mod line;
 mod perform;
 mod piece;
@@ -11,6 +11,7 @@ mod status;
 #[cfg(test)]
 mod tests;
 mod transfer;
+mod verdict;
 
 use command::Command;
 use perform::perform;

@@ -1,10 +1,11 @@
-// The top call: from words and an input to a status and an output.
-ghost use Rattle.std.specs.Prelude.{List, ℕ, ◌≡◌, ◌≤◌, ◌<◌, ◌+◌, ◌⊎◌, true, false, IfOk, IfSome, OnOk, IsErrOf, length, map, string_bytes, Some, None};
+//! The top call: from words and an input to a status and an output.
+ghost use Rattle.std.specs.Prelude.{List, ℕ, ◌≡◌, ◌≤◌, ◌<◌, ◌+◌, ◌⊎◌, true, false, IfOk, IfSome, OnOk, IsErrOf, length, Some};
 ghost use Rattle.std.specs.Io.KnownBytes.{Appends};
 ghost use Rattle.vt_io.specs.Faults.{HasCause, Rose};
 ghost use Rattle.vt_cli.specs.Reading.{limit, part_read, part_left, ReadsNoFurther};
 ghost use Rattle.vt_cli.specs.Ending.{AppendsPart, IsDecided, IsFormed, ExactlyWhere};
-ghost use Rattle.vt_cli.specs.Outcome.{Reply, command_of, outcome, wants_input, usage, heard, IsTooLong, IsFaulty};
+ghost use Rattle.vt_cli.specs.Outcome.{Reply, wants_input, usage, heard};
+ghost use Rattle.vt_cli.specs.Words.{HaveFaultyAnswer, IsNoCommand, WantInput, WantNoInput, WantTooMuch, outcome_of_words};
 
 use crate::answer::{Answer, answer_of};
 use crate::command::{command_of, wants_input};
@@ -36,17 +37,17 @@ fn input_of<S: Source>(
 
 /// The answer that is due, whole in memory.
 fn due<S: Source>(alloc: Global, words: &[String], src: &mut S) -> Result<Answer, ReadError>
-    ensures answer { IfOk result (λ a. IfSome (S.left src.old) (λ input. a ≡ outcome (map string_bytes words.now) input)) }
-    ensures some_input { IfOk result (λ a. (input : List ℕ) × (a ≡ outcome (map string_bytes words.now) input)) }
+    ensures answer { IfOk result (λ a. IfSome (S.left src.old) (λ input. a ≡ outcome_of_words words.now input)) }
+    ensures some_input { IfOk result (λ a. (input : List ℕ) × (a ≡ outcome_of_words words.now input)) }
     ensures decided { IfOk result (λ a. IsDecided a.status) }
-    ensures usage { IfOk result (λ a. command_of (map string_bytes words.now) ≡ None → a ≡ usage) }
-    ensures usage_only { IfOk result (λ a. a.status ≡ Status.Usage → command_of (map string_bytes words.now) ≡ None) }
-    ensures unread { wants_input (command_of (map string_bytes words.now)) ≡ false → src.new ≡ src.old }
-    ensures rest { OnOk result (wants_input (command_of (map string_bytes words.now)) ≡ true
+    ensures usage { IfOk result (λ a. IsNoCommand words.now → a ≡ usage) }
+    ensures usage_only { IfOk result (λ a. a.status ≡ Status.Usage → IsNoCommand words.now) }
+    ensures unread { WantNoInput words.now → src.new ≡ src.old }
+    ensures rest { OnOk result (WantInput words.now
         → IfSome (S.left src.old) (λ input. S.left src.new ≡ Some (part_left input))) }
     ensures no_further { IfSome (S.left src.old) (λ input. ReadsNoFurther input (S.left src.new)) }
     ensures later { S.faults src.old ≤ S.faults src.new }
-    ensures failed { IsErrOf result ReadError.Failed → (wants_input (command_of (map string_bytes words.now)) ≡ true)
+    ensures failed { IsErrOf result ReadError.Failed → WantInput words.now
         × Rose (S.faults src.old) (S.faults src.new) }
 {
     let command = command_of(words);
@@ -79,45 +80,45 @@ pub fn perform<X: AllocGlobal, S: Source, K: Sink>(
 ) -> Status
     // The headline: what was written is exactly the text, and the status exactly the status, of the outcome.
     ensures answer { IsDecided result → IfSome (S.left src.old) (λ input.
-        (result ≡ (outcome (map string_bytes words.now) input).status)
-        × Appends (K.taken out.old) (K.taken out.new) (outcome (map string_bytes words.now) input).text) }
+        (result ≡ (outcome_of_words words.now input).status)
+        × Appends (K.taken out.old) (K.taken out.new) (outcome_of_words words.now input).text) }
 
     // Also where the source tells nothing, status and text are those of one and the same input.
     ensures some_input { IsDecided result → (input : List ℕ)
-        × (result ≡ (outcome (map string_bytes words.now) input).status)
-        × Appends (K.taken out.old) (K.taken out.new) (outcome (map string_bytes words.now) input).text }
+        × (result ≡ (outcome_of_words words.now input).status)
+        × Appends (K.taken out.old) (K.taken out.new) (outcome_of_words words.now input).text }
 
     // Where no count rose, it is that, or memory was wanting.
     ensures complete { ¬ Rose (S.faults src.old) (S.faults src.new) → ¬ Rose (K.faults out.old) (K.faults out.new)
         → IsDecided result ⊎ (result ≡ Status.NoMemory) }
 
     // Usage, whatever source and sink tell.
-    ensures usage { ExactlyWhere result Status.Usage (command_of (map string_bytes words.now) ≡ None) }
+    ensures usage { ExactlyWhere result Status.Usage (IsNoCommand words.now) }
     ensures usage_text { result ≡ Status.Usage → Appends (K.taken out.old) (K.taken out.new) usage.text }
 
     // How far it reads.
-    ensures unread { wants_input (command_of (map string_bytes words.now)) ≡ false → src.new ≡ src.old }
-    ensures reads_all { IsFormed result → wants_input (command_of (map string_bytes words.now)) ≡ true
+    ensures unread { WantNoInput words.now → src.new ≡ src.old }
+    ensures reads_all { IsFormed result → WantInput words.now
         → IfSome (S.left src.old) (λ input. S.left src.new ≡ Some (part_left input)) }
     ensures no_further { IfSome (S.left src.old) (λ input. ReadsNoFurther input (S.left src.new)) }
 
     // The answers that are no outcome, and their causes.
-    ensures read_fault { result ≡ Status.ReadFault → (wants_input (command_of (map string_bytes words.now)) ≡ true)
+    ensures read_fault { result ≡ Status.ReadFault → WantInput words.now
         × Rose (S.faults src.old) (S.faults src.new) }
     ensures write_fault { result ≡ Status.WriteFault → Rose (K.faults out.old) (K.faults out.new) }
     ensures write_fault_part { result ≡ Status.WriteFault → IfSome (S.left src.old) (λ input.
-        AppendsPart (K.taken out.old) (K.taken out.new) (outcome (map string_bytes words.now) input).text) }
+        AppendsPart (K.taken out.old) (K.taken out.new) (outcome_of_words words.now input).text) }
     ensures write_fault_some { result ≡ Status.WriteFault → (input : List ℕ)
-        × AppendsPart (K.taken out.old) (K.taken out.new) (outcome (map string_bytes words.now) input).text }
-    ensures write_fault_usage { result ≡ Status.WriteFault → command_of (map string_bytes words.now) ≡ None
+        × AppendsPart (K.taken out.old) (K.taken out.new) (outcome_of_words words.now input).text }
+    ensures write_fault_usage { result ≡ Status.WriteFault → IsNoCommand words.now
         → AppendsPart (K.taken out.old) (K.taken out.new) usage.text }
     ensures unwritten { (result ≡ Status.ReadFault) ⊎ (result ≡ Status.NoMemory) → out.new ≡ out.old }
 
     // The refusals of the input.
     ensures too_long { IfSome (S.left src.old) (λ input.
-        ExactlyWhere result Status.TooLong (IsTooLong (map string_bytes words.now) input)) }
+        ExactlyWhere result Status.TooLong (WantTooMuch words.now input)) }
     ensures faulty { IfSome (S.left src.old) (λ input.
-        ExactlyWhere result Status.Faulty (IsFaulty (map string_bytes words.now) input)) }
+        ExactlyWhere result Status.Faulty (HaveFaultyAnswer words.now input)) }
 
     // The counts never fall.
     ensures source_later { S.faults src.old ≤ S.faults src.new }

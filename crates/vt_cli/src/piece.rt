@@ -1,4 +1,4 @@
-// From lines to a score: each action at its virtual time.
+//! From lines to a score: each action at its virtual time.
 ghost use Rattle.std.specs.Prelude.{◌≡◌, ◌+◌, ◌^◌, ◌<◌, ◌≤◌, ◌∷◌, [], List, length, pos, position, IfOk, IfSome};
 ghost use Rattle.vt_frac.specs.Fraction.{Fraction, whole};
 ghost use Rattle.vt_frac.specs.Arithmetic.{sum_of};
@@ -14,7 +14,7 @@ use vt_value::{FaultKind, Value};
 const TEXT: u32 = 1;
 
 /// The time after a rest, in seconds.
-#[derive(Clone, Copy, Debug, PartialEq, Eq)]
+#[derive(Clone, Copy)]
 pub enum NextTime {
     /// It is before the horizon.
     Before(Frac),

@@ -1,4 +1,4 @@
-// Reading to the end or just past the limit, and writing a whole text.
+//! Reading to the end or just past the limit, and writing a whole text.
 ghost use Rattle.std.specs.Prelude.{◌≡◌, ◌≤◌, ◌<◌, ◌+◌, length, IfOk, IfSome, OnOk, OnErr, IsErrOf, Some};
 ghost use Rattle.std.specs.Io.KnownBytes.{Appends};
 ghost use Rattle.vt_io.specs.Faults.{HasCause, Rose};

@@ -100,7 +100,7 @@ less-second o r h k = ap (λ (x : Ordering). ordering_then x r) h ∙ k
 longer : (x : ℕ) (xs ys : List ℕ) → IsThreadBefore xs ys → IsThreadBefore (x ∷ xs) (x ∷ ys)
 longer x xs ys (inl p) = inl (record { next = p.next; rest = p.rest; whole = ap (λ (l : List ℕ). x ∷ l) p.whole })
 longer x xs ys (inr p) = inr (record {
-  front = x ∷ p.front;
+  prefix = x ∷ p.prefix;
   lesser = p.lesser;
   greater = p.greater;
   rest_of_lesser = p.rest_of_lesser;
@@ -117,22 +117,22 @@ thread-before (x ∷ xs) [] h = absurd (let z : Greater ≡ Less = h in cc)
 thread-before (x ∷ xs) (y ∷ ys) h = go (then-less (nat_cmp x y) (thread_order xs ys) h) (thread-before xs ys)
   where
     go : (nat_cmp x y ≡ Less) ⊎ ((nat_cmp x y ≡ Equal) × (thread_order xs ys ≡ Less)) → (thread_order xs ys ≡ Less → IsThreadBefore xs ys) → IsThreadBefore (x ∷ xs) (y ∷ ys)
-    go (inl e) ih = inr (record { front = []; lesser = x; greater = y; rest_of_lesser = xs; rest_of_greater = ys; lower = number-less x y e; first = refl; second = refl })
+    go (inl e) ih = inr (record { prefix = []; lesser = x; greater = y; rest_of_lesser = xs; rest_of_greater = ys; lower = number-less x y e; first = refl; second = refl })
     go (inr e) ih = subst (λ (n : ℕ). IsThreadBefore (x ∷ xs) (n ∷ ys)) (number-equal x y e.0) (longer x xs ys (ih e.1))
 
 prefix-before : (xs : List ℕ) (next : ℕ) (rest : List ℕ) → thread_order xs (xs ++ next ∷ rest) ≡ Less
 prefix-before [] next rest = refl
 prefix-before (x ∷ xs) next rest = less-second (nat_cmp x x) (thread_order xs (xs ++ next ∷ rest)) (tied_itself nat_cmp_total x) (prefix-before xs next rest)
 
-lower-before : (front : List ℕ) (m n : ℕ) (ms ns : List ℕ) → m < n → thread_order (front ++ m ∷ ms) (front ++ n ∷ ns) ≡ Less
+lower-before : (prefix : List ℕ) (m n : ℕ) (ms ns : List ℕ) → m < n → thread_order (prefix ++ m ∷ ms) (prefix ++ n ∷ ns) ≡ Less
 lower-before [] m n ms ns h = less-first (nat_cmp m n) (thread_order ms ns) (less-number m n h)
-lower-before (x ∷ front) m n ms ns h = less-second (nat_cmp x x) (thread_order (front ++ m ∷ ms) (front ++ n ∷ ns)) (tied_itself nat_cmp_total x) (lower-before front m n ms ns h)
+lower-before (x ∷ prefix) m n ms ns h = less-second (nat_cmp x x) (thread_order (prefix ++ m ∷ ms) (prefix ++ n ∷ ns)) (tied_itself nat_cmp_total x) (lower-before prefix m n ms ns h)
 
 pub before-thread : (xs ys : List ℕ) → IsThreadBefore xs ys → thread_order xs ys ≡ Less
 before-thread xs ys (inl p) = ap (thread_order xs) p.whole ∙ prefix-before xs p.next p.rest
 before-thread xs ys (inr p) =
-    ap (λ (l : List ℕ). thread_order l ys) p.first ∙ ap (thread_order (p.front ++ p.lesser ∷ p.rest_of_lesser)) p.second
-    ∙ lower-before p.front p.lesser p.greater p.rest_of_lesser p.rest_of_greater p.lower
+    ap (λ (l : List ℕ). thread_order l ys) p.first ∙ ap (thread_order (p.prefix ++ p.lesser ∷ p.rest_of_lesser)) p.second
+    ∙ lower-before p.prefix p.lesser p.greater p.rest_of_lesser p.rest_of_greater p.lower
 
 pub place-before : (p q : Place) → IsBefore p q → IsLexicographicallyBefore p q
 place-before p q h = by_time (then-less _ _ h)

@@ -12,10 +12,6 @@ use Rattle.vt_event.specs.declared.references.BlockRef.{BlockRef}
 use Rattle.vt_event.specs.Pairs.{Pairs}
 use Rattle.vt_event.specs.Event.{EventView}
 
--- an event with every field empty
-abbrev pub blank_event : Place → Kind → EventView
-blank_event place kind = record { place = place; kind = kind; path = None; name = []; value = Nil; options = []; fx = None; body = None; line = 0 }
-
 -- what sounds: a name or none, a value, options, and the effect in which it stands
 abbrev pub sound_event : Place → Kind → List ℕ → Value → Pairs → Option FxId → EventView
 sound_event place kind name value options fx = record { place = place; kind = kind; path = None; name = name; value = value; options = options; fx = fx; body = None; line = 0 }
@@ -36,9 +32,13 @@ sample_event place sample options fx = sound_event place Sample [] sample option
 abbrev pub fx_event : Place → List ℕ → ℕ → Pairs → Option FxId → EventView
 fx_event place name number options fx = sound_event place Fx name (Whole (pos number)) options fx
 
+-- an event without a name, options and effect
+abbrev pub nameless_event : Place → Kind → Option Path → Value → Option (BlockRef × Pairs) → ℕ → EventView
+nameless_event place kind path value body line = record { place = place; kind = kind; path = path; name = []; value = value; options = []; fx = None; body = body; line = line }
+
 -- what stands at a path with a value
 abbrev pub path_event : Place → Kind → Path → Value → EventView
-path_event place kind path value = record { place = place; kind = kind; path = Some path; name = []; value = value; options = []; fx = None; body = None; line = 0 }
+path_event place kind path value = nameless_event place kind (Some path) value None 0
 
 abbrev pub cue_event : Place → Path → Value → EventView
 cue_event place path value = path_event place Cue path value
@@ -58,15 +58,15 @@ ended_event place path = path_event place Ended path Nil
 
 -- what is written out
 abbrev pub log_event : Place → Value → EventView
-log_event place value = record { place = place; kind = Log; path = None; name = []; value = value; options = []; fx = None; body = None; line = 0 }
+log_event place value = nameless_event place Log None value None 0
 
 -- a fault, with its line in the input
 abbrev pub fault_event : Place → FaultKind → ℕ → EventView
-fault_event place fault line = record { place = place; kind = Fault fault; path = None; name = []; value = Nil; options = []; fx = None; body = None; line = line }
+fault_event place fault line = nameless_event place (Fault fault) None Nil None line
 
 -- a block and its locals are kept at a path
 abbrev pub block_event : Place → Kind → Path → BlockRef → Pairs → ℕ → EventView
-block_event place kind path block locals line = record { place = place; kind = kind; path = Some path; name = []; value = Nil; options = []; fx = None; body = Some (block, locals); line = line }
+block_event place kind path block locals line = nameless_event place kind (Some path) Nil (Some (block, locals)) line
 
 -- the body of a live loop, with the line of its statement
 abbrev pub body_event : Place → Path → BlockRef → Pairs → ℕ → EventView

@@ -35,14 +35,14 @@ pub record IsProperPrefix (xs ys : List ℕ) : Type 0 where
 
 -- xs and ys begin alike, and then xs has the lesser number
 pub record IsLowerAt (xs ys : List ℕ) : Type 0 where
-  pub front : List ℕ
+  pub prefix : List ℕ
   pub lesser : ℕ
   pub greater : ℕ
   pub rest_of_lesser : List ℕ
   pub rest_of_greater : List ℕ
   pub lower : lesser < greater
-  pub first : xs ≡ front ++ lesser ∷ rest_of_lesser
-  pub second : ys ≡ front ++ greater ∷ rest_of_greater
+  pub first : xs ≡ prefix ++ lesser ∷ rest_of_lesser
+  pub second : ys ≡ prefix ++ greater ∷ rest_of_greater
 
 -- one thread's list comes before another's
 abbrev pub IsThreadBefore : List ℕ → List ℕ → Type 0

@@ -1,15 +1,17 @@
 -- Texts and inputs as a session gives them: own.
-use Rattle.std.specs.Prelude.{◌≡◌, ℕ, ◌+◌, ◌≤◌, pos, ◌≤ℤ◌, List, [], ◌∷◌, Bool, true, false, nat_le, Some, IsSomeAnd, IsTrue, All, length, map, slice_get}
+use Rattle.std.specs.Prelude.{◌≡◌, ℕ, ◌+◌, ◌≤◌, pos, ◌≤ℤ◌, List, [], ◌∷◌, Bool, true, false, nat_le, Some, IsSomeAnd, IsTrue, All, codes, length, map, slice_get}
 use Rattle.std.specs.List.Sorted.{IsSorted}
-use Rattle.vt_frac.specs.Fraction.{Fraction}
+use Rattle.vt_frac.specs.Fraction.{Fraction, whole}
 use Rattle.vt_frac.specs.Order.{value_order}
 use Rattle.vt_path.specs.Path.{IsPath}
 use Rattle.vt_value.specs.declared.value.Value.{Value, out-Value}
 use Rattle.vt_value.specs.declared.value.Value.TheOpen.{Value-F}
+use Rattle.vt_value.specs.declared.value.Value.TheVariants.{Ring, Whole}
 use Rattle.vt_value.specs.Arithmetic.{are_within}
 use Rattle.vt_value.specs.Kinds.{ring_of}
 use Rattle.vt_event.specs.declared.kind.Kind.TheVariants.{Cue}
 use Rattle.vt_event.specs.Event.{EventView}
+use Rattle.vt_event.specs.EventsByKind.{cue_event}
 
 -- at most 1,048,576 times, each at least 0, none below an earlier one
 pub record AreOrderlyTimes (times : List Fraction) : Type 0 where
@@ -42,3 +44,12 @@ pub record AreOrderly (text_times : List Fraction) (inputs : List EventView) : T
   pub texts : AreOrderlyTimes text_times
   pub inputs_times : AreOrderlyTimes (map (λ input. input.place.time) inputs)
   pub each : (k : ℕ) (input : EventView) → slice_get inputs k ≡ Some input → IsInput (k + 1) input
+
+-- the input with this number at this time: a cue of `/cue/a` with the value 60
+abbrev pub cue_of_60 : Fraction → ℕ → EventView
+cue_of_60 time number = cue_event (record { time = time; micro = 0; thread = 0 ∷ []; step = number }) (codes "cue" ∷ codes "a" ∷ []) (Ring (Whole (pos 60) ∷ []))
+
+-- there are such texts and inputs: texts at 0 and 8 seconds, inputs at 0 and 5/2
+abbrev pub SomeListsAreOrderly : Type 0
+SomeListsAreOrderly = AreOrderly (whole (pos 0) ∷ whole (pos 8) ∷ [])
+    (cue_of_60 (whole (pos 0)) 1 ∷ cue_of_60 (record { numer = pos 5; denom = 2 }) 2 ∷ [])

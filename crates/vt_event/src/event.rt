@@ -18,7 +18,7 @@ mod make;
 ///
 /// Its kind says which fields it has; every other field is empty. The type keeps that, so events are made by `of_play` and
 /// the other calls of that form, one for each kind, and read by the calls below.
-#[derive(Debug, Drop)]
+#[derive(Drop)]
 pub struct Event {
     place: Place,
     kind: Kind,
@@ -116,17 +116,41 @@ impl Event {
     pub fn copy(&self, alloc: Global) -> Result<Event, NoMemory>
         ensures { IfOk result (λ event. event ≡ self.now) }
     {
+        let (place, path) = self.copy_where(alloc)?;
+        let (name, value) = self.copy_content(alloc)?;
+        let (options, fx) = self.copy_setting(alloc)?;
         Ok(Event {
-            place: self.place.copy(alloc)?,
+            place,
             kind: self.kind,
-            path: copy_path(alloc, &self.path)?,
-            name: self.name.copy(alloc)?,
-            value: self.value.copy(alloc)?,
-            options: self.options.copy(alloc)?,
-            fx: copy_fx(alloc, &self.fx)?,
+            path,
+            name,
+            value,
+            options,
+            fx,
             body: copy_body(alloc, &self.body)?,
             line: self.line,
         })
+    }
+
+    fn copy_where(&self, alloc: Global) -> Result<(Place, Option<Path>), NoMemory>
+        ensures { IfOk result (λ copied. copied ≡ (self.now.place, self.now.path)) }
+    {
+        let place = self.place.copy(alloc)?;
+        Ok((place, copy_path(alloc, &self.path)?))
+    }
+
+    fn copy_content(&self, alloc: Global) -> Result<(Name, Value), NoMemory>
+        ensures { IfOk result (λ copied. copied ≡ (self.now.name, self.now.value)) }
+    {
+        let name = self.name.copy(alloc)?;
+        Ok((name, self.value.copy(alloc)?))
+    }
+
+    fn copy_setting(&self, alloc: Global) -> Result<(Options, Option<FxId>), NoMemory>
+        ensures { IfOk result (λ copied. copied ≡ (self.now.options, self.now.fx)) }
+    {
+        let options = self.options.copy(alloc)?;
+        Ok((options, copy_fx(alloc, &self.fx)?))
     }
 }
 

@@ -1,10 +1,12 @@
+//! What an event may be.
+
 ghost use Rattle.std.specs.Prelude.{◌≡◌};
 ghost use Rattle.vt_event.specs.Kinds.{is_shown};
 
 use vt_value::FaultKind;
 
 /// What happened. A score shows all but the last four, which are inner events.
-#[derive(Clone, Copy, Debug, PartialEq, Eq)]
+#[derive(Clone, Copy, PartialEq, Eq)]
 pub enum Kind {
     /// A note was played.
     Play,

@@ -2,26 +2,23 @@
 #![tactic(auto)]
 
 mod event;
-mod events;
 mod kind;
 mod laws;
 mod pairs;
 mod place;
 mod references;
 mod score;
-#[cfg(test)]
-mod tests;
+mod sequence;
 mod thread;
 
 pub use event::Event;
-pub use events::{Events, Inputs};
 pub use kind::Kind;
 pub use laws::{
-    no_lists_are_orderly, order_is_antisymmetric, order_is_exact, order_is_lexicographic,
-    order_is_total, order_is_transitive, thread_order_is_lexicographic,
+    order_is_antisymmetric, order_is_exact, order_is_lexicographic, order_is_total,
+    order_is_transitive, some_lists_are_orderly, thread_order_is_lexicographic,
 };
-pub use pairs::{Locals, Options};
 pub use place::{Place, PlaceRef};
 pub use references::{BlockRef, FxId};
-pub use score::{Living, LivingState, Livings, Outcome, Score};
+pub use score::{Living, LivingState, Outcome, Score};
+pub use sequence::{Events, Inputs, Livings, Locals, Options};
 pub use thread::ThreadId;

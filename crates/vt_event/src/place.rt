@@ -1,3 +1,5 @@
+//! Places, and their order.
+
 ghost use Rattle.std.specs.Prelude.{◌≡◌, IfOk, Some};
 ghost use Rattle.std.specs.Ordering.{is_eq};
 ghost use Rattle.std.specs.Cmp.{eq_by_cmp_equiv, partial_equiv_from_equiv, partial_order_from_total};
@@ -11,7 +13,7 @@ use std::cmp::Ordering;
 use vt_frac::{Frac, NoMemory};
 
 /// Where an action stands. Places are ordered by time, then by micro step, then by thread, then by step.
-#[derive(Debug, Drop)]
+#[derive(Drop)]
 pub struct Place {
     /// The time, in seconds.
     pub time: Frac,
@@ -24,7 +26,7 @@ pub struct Place {
 }
 
 /// A place whose thread is lent. It has the same order.
-#[derive(Clone, Copy, Debug)]
+#[derive(Clone, Copy)]
 pub struct PlaceRef<'a> {
     /// The time, in seconds.
     pub time: Frac,

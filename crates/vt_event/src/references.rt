@@ -7,7 +7,7 @@ use std::alloc::Global;
 use vt_frac::NoMemory;
 
 /// An effect: the thread that began it, and its number in that thread.
-#[derive(Debug, Drop)]
+#[derive(Drop)]
 pub struct FxId {
     /// The thread that began it.
     pub thread: ThreadId,
@@ -28,7 +28,7 @@ impl FxId {
 }
 
 /// A block of a text.
-#[derive(Clone, Copy, Debug, PartialEq, Eq)]
+#[derive(Clone, Copy, PartialEq, Eq)]
 pub struct BlockRef {
     /// The number of the text, from 1.
     pub text: u32,

@@ -1,3 +1,5 @@
+//! The names of threads, and their order.
+
 ghost use Rattle.std.specs.Prelude.{◌≡◌, ◌↔◌, ◌<◌, ◌≤◌, ◌∷◌, ◌++◌, [], length, IfOk, IsTrue, Some};
 ghost use Rattle.std.specs.Ordering.{is_eq};
 ghost use Rattle.std.specs.Cmp.{eq_by_cmp_equiv, partial_equiv_from_equiv, partial_order_from_total};
@@ -21,7 +23,7 @@ const LONGEST: usize = 32;
 /// thread that a thread starts has the thread's list with j added.
 ///
 /// Lists are ordered number by number; a list comes after its own prefixes.
-#[derive(Debug, Drop)]
+#[derive(Drop)]
 pub struct ThreadId {
     numbers: SmallVec<u32, SHORT>,
 }

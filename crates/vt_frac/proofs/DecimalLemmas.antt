@@ -6,7 +6,6 @@ use Rattle.std.specs.Str.Parse.{AllDigits}
 use Rattle.std.proofs.Math.Nat.{pow-le-pow_right}
 use Rattle.std.proofs.lemmas.Bool.Decides.{nat_tests}
 use Rattle.std.proofs.lemmas.List.{length-take-le, length-drop, take_all, nil_from_length}
-use Rattle.std.proofs.lemmas.Nat.{mul-add-lt}
 use Rattle.std.proofs.lemmas.Int.Digits.{digits_value-lt, digits_value_more}
 use Rattle.std.specs.List.{position, position_or_len}
 use Rattle.vt_frac.specs.declared.fault.DecimalFault.TheVariants.{Shape, Long, Overflow}
@@ -30,15 +29,15 @@ both_true false c h = absurd (true≢false (sym h))
 pub all_of : (bs : List ℕ) → IsTrue (are_digits bs) → list_all is_ascii_digit bs ≡ true
 all_of bs h = (both_true (nat_lt 0 (length bs)) (list_all is_ascii_digit bs) h).1
 
-front_digits : (bs : List ℕ) (i : ℕ) → list_all is_ascii_digit bs ≡ true → AllDigits 10 (take i bs)
-front_digits [] zero h = tt
-front_digits [] (suc i) h = tt
-front_digits (b ∷ bs) zero h = tt
-front_digits (b ∷ bs) (suc i) h =
+prefix_digits : (bs : List ℕ) (i : ℕ) → list_all is_ascii_digit bs ≡ true → AllDigits 10 (take i bs)
+prefix_digits [] zero h = tt
+prefix_digits [] (suc i) h = tt
+prefix_digits (b ∷ bs) zero h = tt
+prefix_digits (b ∷ bs) (suc i) h =
     let parts = both_true (is_ascii_digit b) (list_all is_ascii_digit bs) h in
     let small = digit_small b parts.0 in
     let worth = digit_is b parts.0 in
-    (omega (arith, worth, small.0, small.1), front_digits bs i parts.1)
+    (omega (arith, worth, small.0, small.1), prefix_digits bs i parts.1)
 
 pub digit_at : (bs : List ℕ) (i : ℕ) → list_all is_ascii_digit bs ≡ true → i < length bs → is_ascii_digit (get_or bs i 0) ≡ true
 digit_at [] i h p = absurd (omega arith)
@@ -46,13 +45,13 @@ digit_at (b ∷ bs) zero h p = (both_true (is_ascii_digit b) (list_all is_ascii_
 digit_at (b ∷ bs) (suc i) h p = digit_at bs i (both_true (is_ascii_digit b) (list_all is_ascii_digit bs) h).1 (omega arith)
 
 -- the number of the first digits
-pub front_small : (bs : List ℕ) (i : ℕ) → list_all is_ascii_digit bs ≡ true → i ≤ length bs → digits_value (take i bs) < 10 ^ i
-front_small bs i h p =
+pub prefix_small : (bs : List ℕ) (i : ℕ) → list_all is_ascii_digit bs ≡ true → i ≤ length bs → digits_value (take i bs) < 10 ^ i
+prefix_small bs i h p =
     let few : length (take i bs) ≡ i = length-take-le i bs p in
-    subst (λ n. digits_value (take i bs) < 10 ^ n) few (digits_value-lt 10 (take i bs) (front_digits bs i h))
+    subst (λ n. digits_value (take i bs) < 10 ^ n) few (digits_value-lt 10 (take i bs) (prefix_digits bs i h))
 
-pub front_more : (bs : List ℕ) (i : ℕ) → list_all is_ascii_digit bs ≡ true → i < length bs → digits_value (take (i + 1) bs) ≡ digits_value (take i bs) * 10 + (get_or bs i 0 - 48)
-front_more bs i h p = digits_value_more 10 bs i p ∙ ap (λ d. digits_value (take i bs) * 10 + d) (digit_is (get_or bs i 0) (digit_at bs i h p))
+pub prefix_more : (bs : List ℕ) (i : ℕ) → list_all is_ascii_digit bs ≡ true → i < length bs → digits_value (take (i + 1) bs) ≡ digits_value (take i bs) * 10 + (get_or bs i 0 - 48)
+prefix_more bs i h p = digits_value_more 10 bs i p ∙ ap (λ d. digits_value (take i bs) * 10 + d) (digit_is (get_or bs i 0) (digit_at bs i h p))
 
 -- ---- the forms
 
@@ -117,14 +116,6 @@ pointed-long before after (inr h) = grind (arith, nat_tests)
 pub pointed-worth : (before after : List ℕ) → length before ≤ 18 → length after ≤ 18 → fitted_decimal (over (pos (digits_value before * 10 ^ length after + digits_value after)) (10 ^ length after)) ≡ pointed_decimal before after
 unfolding pointed_decimal
 pointed-worth before after p q = grind (arith, nat_tests)
-
--- both sides together are below 10 to the 36
-pub together_small : (m n a b : ℕ) → a ≤ 18 → b ≤ 18 → m < 10 ^ a → n < 10 ^ b → m * 10 ^ b + n < 2 ^ 127
-together_small m n a b p q h k =
-    let most : 10 ^ a ≤ 10 ^ 18 = pow-le-pow_right {n = 10} (omega arith) {i = a} {j = 18} p in
-    let parts : 10 ^ b ≤ 10 ^ 18 = pow-le-pow_right {n = 10} (omega arith) {i = b} {j = 18} q in
-    let both = mul-add-lt m (10 ^ b) n (10 ^ 18) (omega (arith, h, most)) k in
-    omega (arith, both, parts)
 
 pub tens_small : (i : ℕ) → i ≤ 18 → 10 ^ i ≤ 10 ^ 18
 tens_small i p = pow-le-pow_right {n = 10} (omega arith) {i = i} {j = 18} p

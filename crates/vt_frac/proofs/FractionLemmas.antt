@@ -9,7 +9,7 @@ use Rattle.vt_frac.specs.declared.fault.FracFault.TheVariants.{Zero, Overflow}
 use Rattle.vt_frac.specs.Arithmetic.{sum_of}
 use Rattle.std.specs.Int.{◌∣◌}
 use Rattle.vt_frac.specs.Divisor.{gcd}
-use Rattle.vt_frac.specs.Fraction.{Fraction, over, reduced, fits, fitted, with_sign, IsFraction, unless_zero, whole, ReducedIsLowest, ReducedKeepsTheValue}
+use Rattle.vt_frac.specs.Fraction.{Fraction, over, reduced, fits, fitted, with_sign, IsFraction, unless_zero, ReducedIsLowest, ReducedKeepsTheValue}
 use Rattle.vt_frac.specs.OrderLaws.{same_parts}
 use Rattle.vt_frac.proofs.GcdLemmas.{gcd-IsGcd, gcd-parts, gcd-lowest, same_lowest}
 
@@ -171,19 +171,3 @@ over-self f h =
 pub same_from_value : (f g : Fraction) → IsFraction f → IsFraction g → f.numer *ℤ pos g.denom ≡ g.numer *ℤ pos f.denom → f ≡ g
 same_from_value f g p q h =
     sym (over-self f p) ∙ over_same f.numer g.numer f.denom g.denom p.positive q.positive h ∙ over-self g q
-
--- a whole number as a fraction
-pub reduced-whole : (n : ℤ) → reduced n (pos 1) ≡ whole n
-unfolding reduced
-reduced-whole n =
-    let one : gcd (unsigned_abs n) 1 ≡ 1 = eq-one_of_dvd-one ((gcd-IsGcd (unsigned_abs n) 1).1) in
-    over_is n 1 (omega arith) ∙ same_parts _ _ (rw (one, div-one) (with_sign_self n)) (rw one refl)
-
--- an answer that fits is the fraction itself
-pub fitted_value : (f g : Fraction) → Ok g ≡ fitted f → g ≡ f
-unfolding fitted
-fitted_value f g e = by_test (fits f) e
-  where
-    by_test : (b : Bool) → Ok g ≡ cond b (Ok f) (Err Overflow) → g ≡ f
-    by_test true h = cc
-    by_test false h = cc

@@ -1,6 +1,7 @@
 pub mod ArithmeticLemmas
 pub mod DecimalForms
 pub mod DecimalLemmas
+pub mod Decision
 pub mod FractionLemmas
 pub mod GcdLemmas
 pub mod OrderLemmas

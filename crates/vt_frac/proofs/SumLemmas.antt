@@ -1,16 +1,15 @@
--- A sum with nothing stays, and a sum with more than nothing is greater.
+-- A sum with more than nothing is greater.
 use Rattle.std.proofs.Common.{◌≡◌, ℕ, ◌+◌, ◌*◌, ◌<◌, ℤ, pos, refl, sym, ap, ◌∙◌, arith}
 use Rattle.std.specs.Prelude.{◌+ℤ◌, ◌*ℤ◌, ◌<ℤ◌}
 use Rattle.std.specs.declared.cmp.Ordering.TheVariants.{Less}
 use Rattle.std.proofs.Math.Nat.{mul-lt-mul_of_pos_right, lt_of_mul-lt-mul_right, mul-pos}
-use borrow.Author.Differences.{up, down, lt_out, same_in, same_out, sum_is_lem}
-use lib.IntN.{+ℤ_idr}
+use borrow.Author.Differences.{up, down, lt_out, same_out, sum_is_lem}
 use Rattle.vt_frac.specs.Arithmetic.{sum_of}
-use Rattle.vt_frac.specs.Fraction.{Fraction, IsFraction, over}
+use Rattle.vt_frac.specs.Fraction.{Fraction, over}
 use Rattle.vt_frac.specs.Order.{value_order, order_of}
 use Rattle.vt_frac.specs.OrderLaws.{up-times, down-times, less_in, less_from}
 use Rattle.vt_frac.proofs.OrderLemmas.{max_is}
-use Rattle.vt_frac.proofs.FractionLemmas.{over-value, over-positive, over_same, over-self}
+use Rattle.vt_frac.proofs.FractionLemmas.{over-value, over-positive}
 
 rises : (s t u v n m y z a b c : ℕ) → s * (a * b) ≡ u * c → t * (a * b) ≡ v * c → u + m * b + z * a ≡ v + n * b + y * a → z < y → 0 < a → 0 < c → n * c + t * a < s * a + m * c
 rises s t u v n m y z a b c e f g h ha hc =
@@ -33,14 +32,3 @@ sum-rises a b p q h =
     let some : 0 < a.denom * b.denom = mul-pos p q in
     let rises_to = below_sum a (over (a.numer *ℤ pos b.denom +ℤ b.numer *ℤ pos a.denom) (a.denom * b.denom)) b _ p (over-positive _ (a.denom * b.denom) some) (over-value (a.numer *ℤ pos b.denom +ℤ b.numer *ℤ pos a.denom) (a.denom * b.denom) some) refl h in
     rw rises_to refl
-
-pub sum-stays : (a b : Fraction) → IsFraction a → 0 < b.denom → b.numer ≡ pos 0 → sum_of a b ≡ a
-unfolding sum_of
-sum-stays a b p q h =
-    let some : 0 < a.denom * b.denom = mul-pos p.positive q in
-    let none : 0 * a.denom ≡ 0 = omega arith in
-    let above : a.numer *ℤ pos b.denom +ℤ b.numer *ℤ pos a.denom ≡ a.numer *ℤ pos b.denom = ap (λ (z : ℤ). a.numer *ℤ pos b.denom +ℤ z *ℤ pos a.denom) h ∙ ap (λ (k : ℕ). a.numer *ℤ pos b.denom +ℤ pos k) none ∙ +ℤ_idr (a.numer *ℤ pos b.denom) in
-    let crossed : (a.numer *ℤ pos b.denom) *ℤ pos a.denom ≡ a.numer *ℤ pos (a.denom * b.denom) =
-    same_in ((a.numer *ℤ pos b.denom) *ℤ pos a.denom) (a.numer *ℤ pos (a.denom * b.denom))
-    (omega (arith, up-times (a.numer *ℤ pos b.denom) a.denom, down-times (a.numer *ℤ pos b.denom) a.denom, ap (λ n. n * a.denom) (up-times a.numer b.denom), ap (λ n. n * a.denom) (down-times a.numer b.denom), up-times a.numer (a.denom * b.denom), down-times a.numer (a.denom * b.denom))) in
-    rw above (over_same (a.numer *ℤ pos b.denom) a.numer (a.denom * b.denom) a.denom some p.positive crossed ∙ over-self a p)

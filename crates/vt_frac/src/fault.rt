@@ -1,3 +1,5 @@
+//! Why there is no fraction.
+
 use thiserror::Error;
 
 /// Why there is no fraction for an answer.

@@ -1,3 +1,5 @@
+//! Exact fractions and their arithmetic.
+
 ghost use Rattle.std.specs.Prelude.{◌≡◌, ◌↔◌, ◌+ℤ◌, ◌*ℤ◌, ◌≤ℤ◌, ◌<ℤ◌, pos, IsErrOf};
 ghost use Rattle.vt_frac.specs.Arithmetic.{difference_of, floor_of, product_of, quotient_of, remainder_of, sum_of};
 ghost use Rattle.vt_frac.specs.Fraction.{IsFraction, fitted, reduced, unless_zero};
@@ -9,8 +11,6 @@ use std::marker::Model;
 mod decimal;
 mod lowest;
 mod order;
-#[cfg(test)]
-mod tests;
 mod text;
 
 /// An exact fraction in lowest terms. Its denominator is at least 1, and both parts are at most `2^63 - 1` in size.

@@ -1,7 +1,7 @@
 -- The laws of one token, of no token, of either form, of a form with another value, and of some lists of a form.
 use Rattle.std.proofs.Common.{◌≡◌, inl, inr, List, [], ◌∷◌, ◌++◌, refl, sym, ap, ◌∙◌}
 use Rattle.vt_grammar.specs.Form.{Form, one, empty, nothing, either, mapped, only}
-use Rattle.vt_grammar.specs.Steps.{Read, Stuck}
+use Rattle.vt_grammar.specs.private.Parsing.{Read, Stuck}
 use Rattle.vt_grammar.proofs.Sequences.{Opens, Lawful}
 
 -- the list doesn't begin with a token of which this holds
@@ -48,7 +48,7 @@ module _ {T : Type 0} (passes : T → Type 0) where
   -- the token was there
   pub one_read : (o n : List T) (t : T) → o ≡ t ∷ n → passes t → Read (one passes) o n t
   one_read o n t e h = record {
-    front = t ∷ [];
+    prefix = t ∷ [];
     whole = e;
     is_read = (h, refl);
     settled = λ c rest _ b. one_more (t ∷ []) t c [] (h, refl) b;
@@ -57,7 +57,7 @@ module _ {T : Type 0} (passes : T → Type 0) where
   -- another token was there, or none
   pub one_stuck : (o : List T) → Bars o passes → Stuck (one passes) o o
   one_stuck o bars = record {
-    front = [];
+    prefix = [];
     whole = refl;
     begun = inl refl;
     unread = λ v h. h;
@@ -80,7 +80,7 @@ empty_lawful v = record {
     not_nil (c ∷ x) t y b = cc
 
 pub empty_read : {T V : Type 0} (v : V) (o : List T) → Read (empty v) o o v
-empty_read v o = record { front = []; whole = refl; is_read = (refl, refl); settled = λ t rest _ b. cc }
+empty_read v o = record { prefix = []; whole = refl; is_read = (refl, refl); settled = λ t rest _ b. cc }
 
 module _ {T A B : Type 0} (f : A → B) (a : Form T A) where
   pub mapped_lawful : (F M : T → Type 0) → Lawful a F M → Lawful (mapped f a) F M
@@ -91,10 +91,10 @@ module _ {T A B : Type 0} (f : A → B) (a : Form T A) where
   }
 
   pub mapped_read : (o n : List T) (v : A) → Read a o n v → Read (mapped f a) o n (f v)
-  mapped_read o n v h = record { front = h.front; whole = h.whole; is_read = (v, h.is_read, refl); settled = h.settled }
+  mapped_read o n v h = record { prefix = h.prefix; whole = h.whole; is_read = (v, h.is_read, refl); settled = h.settled }
 
   pub mapped_stuck : (o n : List T) → Stuck a o n → Stuck (mapped f a) o n
-  mapped_stuck o n h = record { front = h.front; whole = h.whole; begun = h.begun; unread = λ w g. h.unread g.0 g.1; stops = h.stops }
+  mapped_stuck o n h = record { prefix = h.prefix; whole = h.whole; begun = h.begun; unread = λ w g. h.unread g.0 g.1; stops = h.stops }
 
 module _ {T V : Type 0} (P : List T → Type 0) (a : Form T V) where
   pub only_lawful : (F M : T → Type 0) → P [] → ((x y : List T) → P (x ++ y) → P x) → Lawful a F M → Lawful (only P a) F M
@@ -109,12 +109,12 @@ module _ {T V : Type 0} (P : List T → Type 0) (a : Form T V) where
     single = λ x v w h g. l.single x v w h.1 g.1;
   }
 
-  pub only_read : (o n : List T) (v : V) → (h : Read a o n v) → P h.front → Read (only P a) o n v
-  only_read o n v h p = record { front = h.front; whole = h.whole; is_read = (p, h.is_read); settled = λ t rest e b. h.settled t rest e b.1 }
+  pub only_read : (o n : List T) (v : V) → (h : Read a o n v) → P h.prefix → Read (only P a) o n v
+  only_read o n v h p = record { prefix = h.prefix; whole = h.whole; is_read = (p, h.is_read); settled = λ t rest e b. h.settled t rest e b.1 }
 
-  pub only_stuck : (o n : List T) → (h : Stuck a o n) → P h.front → Stuck (only P a) o n
+  pub only_stuck : (o n : List T) → (h : Stuck a o n) → P h.prefix → Stuck (only P a) o n
   only_stuck o n h p = record {
-    front = h.front;
+    prefix = h.prefix;
     whole = h.whole;
     begun = (p, h.begun);
     unread = λ v g. h.unread v g.1;
@@ -169,37 +169,37 @@ module _ {T V : Type 0} (a b : Form T V) where
 
   -- the first form was read, and the other doesn't go so far
   pub left_read_by : (o n : List T) (v : V) (h : Read a o n v)
-      → ((t : T) (rest : List T) → n ≡ t ∷ rest → b.begins (h.front ++ t ∷ []) → ⊥) → Read (either a b) o n v
+      → ((t : T) (rest : List T) → n ≡ t ∷ rest → b.begins (h.prefix ++ t ∷ []) → ⊥) → Read (either a b) o n v
   left_read_by o n v h never = record {
-    front = h.front;
+    prefix = h.prefix;
     whole = h.whole;
     is_read = inl h.is_read;
     settled = λ t rest e g. elim g [ inl p ↦ h.settled t rest e p | inr p ↦ never t rest e p ];
   }
 
   pub right_read_by : (o n : List T) (v : V) (h : Read b o n v)
-      → ((t : T) (rest : List T) → n ≡ t ∷ rest → a.begins (h.front ++ t ∷ []) → ⊥) → Read (either a b) o n v
+      → ((t : T) (rest : List T) → n ≡ t ∷ rest → a.begins (h.prefix ++ t ∷ []) → ⊥) → Read (either a b) o n v
   right_read_by o n v h never = record {
-    front = h.front;
+    prefix = h.prefix;
     whole = h.whole;
     is_read = inr h.is_read;
     settled = λ t rest e g. elim g [ inl p ↦ never t rest e p | inr p ↦ h.settled t rest e p ];
   }
 
-  pub left_stuck_by : (o n : List T) (h : Stuck a o n) → ((v : V) → b.reads h.front v → ⊥)
-      → ((t : T) (rest : List T) → n ≡ t ∷ rest → b.begins (h.front ++ t ∷ []) → ⊥) → Stuck (either a b) o n
+  pub left_stuck_by : (o n : List T) (h : Stuck a o n) → ((v : V) → b.reads h.prefix v → ⊥)
+      → ((t : T) (rest : List T) → n ≡ t ∷ rest → b.begins (h.prefix ++ t ∷ []) → ⊥) → Stuck (either a b) o n
   left_stuck_by o n h unread never = record {
-    front = h.front;
+    prefix = h.prefix;
     whole = h.whole;
     begun = inl h.begun;
     unread = λ v g. elim g [ inl p ↦ h.unread v p | inr p ↦ unread v p ];
     stops = λ t rest e g. elim g [ inl p ↦ h.stops t rest e p | inr p ↦ never t rest e p ];
   }
 
-  pub right_stuck_by : (o n : List T) (h : Stuck b o n) → ((v : V) → a.reads h.front v → ⊥)
-      → ((t : T) (rest : List T) → n ≡ t ∷ rest → a.begins (h.front ++ t ∷ []) → ⊥) → Stuck (either a b) o n
+  pub right_stuck_by : (o n : List T) (h : Stuck b o n) → ((v : V) → a.reads h.prefix v → ⊥)
+      → ((t : T) (rest : List T) → n ≡ t ∷ rest → a.begins (h.prefix ++ t ∷ []) → ⊥) → Stuck (either a b) o n
   right_stuck_by o n h unread never = record {
-    front = h.front;
+    prefix = h.prefix;
     whole = h.whole;
     begun = inr h.begun;
     unread = λ v g. elim g [ inl p ↦ unread v p | inr p ↦ h.unread v p ];
@@ -220,18 +220,18 @@ unbegun b F lb o bars (c ∷ f) n v e solid h = bars.bars c (f ++ n) e (lb.first
 module _ {T V : Type 0} (a b : Form T V) (FA FB : T → Type 0) (la : Opens a FA) (lb : Opens b FB) where
   -- the first form was read, and the list begins with no token of the other
   pub left_read : (o n : List T) (v : V) → Bars o FB → Read a o n v → Read (either a b) o n v
-  left_read o n v bars h = left_read_by a b o n v h (λ t rest e g. barred b FB lb o bars h.front t n rest h.whole e g)
+  left_read o n v bars h = left_read_by a b o n v h (λ t rest e g. barred b FB lb o bars h.prefix t n rest h.whole e g)
 
   pub right_read : (o n : List T) (v : V) → Bars o FA → Read b o n v → Read (either a b) o n v
-  right_read o n v bars h = right_read_by a b o n v h (λ t rest e g. barred a FA la o bars h.front t n rest h.whole e g)
+  right_read o n v bars h = right_read_by a b o n v h (λ t rest e g. barred a FA la o bars h.prefix t n rest h.whole e g)
 
   pub left_stuck : (o n : List T) → Bars o FB → Stuck a o n → ((w : V) → b.reads [] w → o ≡ n → ⊥) → Stuck (either a b) o n
-  left_stuck o n bars h solid = left_stuck_by a b o n h (λ v g. unbegun b FB lb o bars h.front n v h.whole solid g)
-      (λ t rest e g. barred b FB lb o bars h.front t n rest h.whole e g)
+  left_stuck o n bars h solid = left_stuck_by a b o n h (λ v g. unbegun b FB lb o bars h.prefix n v h.whole solid g)
+      (λ t rest e g. barred b FB lb o bars h.prefix t n rest h.whole e g)
 
   pub right_stuck : (o n : List T) → Bars o FA → Stuck b o n → ((w : V) → a.reads [] w → o ≡ n → ⊥) → Stuck (either a b) o n
-  right_stuck o n bars h solid = right_stuck_by a b o n h (λ v g. unbegun a FA la o bars h.front n v h.whole solid g)
-      (λ t rest e g. barred a FA la o bars h.front t n rest h.whole e g)
+  right_stuck o n bars h solid = right_stuck_by a b o n h (λ v g. unbegun a FA la o bars h.prefix n v h.whole solid g)
+      (λ t rest e g. barred a FA la o bars h.prefix t n rest h.whole e g)
 
 pub nothing_lawful : {T V : Type 0} (F : T → Type 0) → Lawful {T = T} {V = V} nothing F (λ t. ⊥)
 nothing_lawful F = record {
@@ -245,4 +245,4 @@ nothing_lawful F = record {
     nil_of (t ∷ x) y b = absurd (cc)
 
 pub nothing_stuck : {T V : Type 0} (o : List T) → Stuck {V = V} nothing o o
-nothing_stuck o = record { front = []; whole = refl; begun = refl; unread = λ v h. h; stops = λ t rest e b. cc }
+nothing_stuck o = record { prefix = []; whole = refl; begun = refl; unread = λ v h. h; stops = λ t rest e b. cc }

@@ -12,11 +12,11 @@ use Rattle.vt_tree.specs.Parts.{Part as TreePart, called, opened as part_opened,
 use Rattle.vt_tree.specs.WellFormed.{IsWellFormed}
 use Rattle.vt_grammar.specs.Formed.{IsFormed, AreFormed}
 use Rattle.vt_grammar.specs.Grammar.{block}
-use Rattle.vt_grammar.specs.Marks.{Spelled, begins_block, mark_of, marked, number_with, word_of}
+use Rattle.vt_grammar.specs.Marks.{Spelled, begins_block, mark_of, marked, number_with, terminal_of}
 use Rattle.vt_grammar.specs.Tokens.{spelled, spelled_in}
 use Rattle.vt_grammar.specs.Text.{text, Reads}
 use Rattle.vt_grammar.proofs.FormedMarks.{marks_good}
-use Rattle.vt_grammar.proofs.FormedPieces.{statements_told}
+use Rattle.vt_grammar.proofs.FormedRules.{statements_told}
 use Rattle.vt_grammar.proofs.FormedTrees.{IsWhole, block_is, numbers}
 use Rattle.vt_grammar.proofs.Tells.{Tells, begun, map_tells}
 
@@ -29,7 +29,7 @@ CountFrom n (m ∷ ms) = (m ≡ n) × CountFrom (suc n) ms
 counted : (n : ℕ) (ss : List Spelled) → CountFrom (suc n) (begun (marked n ss))
 unfolding mark_of number_with
 counted n [] = tt
-counted n (s ∷ ss) = go (begins_block (word_of s)) (λ m. counted m ss)
+counted n (s ∷ ss) = go (begins_block (terminal_of s)) (λ m. counted m ss)
   where
     go : (b : Bool) → ((m : ℕ) → CountFrom (suc m) (begun (marked m ss)))
         → CountFrom (suc n) (cond b (cond b (suc n) n ∷ []) [] ++ begun (marked (cond b (suc n) n) ss))

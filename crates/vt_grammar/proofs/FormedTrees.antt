@@ -1,4 +1,4 @@
--- The trees that the pieces of the grammar give: that each has its form, and which blocks stand in it in their order.
+-- The trees that the rules of the grammar give: that each has its form, and which blocks stand in it in their order.
 use Rattle.std.proofs.Common.{◌≡◌, ℕ, suc, Bool, true, false, true≢false, ◌&&◌, IsTrue, cond, nat_eq, is_none, List, [], ◌∷◌, ◌++◌, length, map, Option, Some, None, refl, sym, ap, ◌∙◌, subst, append-nil, append_assoc, arith}
 use Rattle.std.specs.List.{All, AllByRecursion}
 use Rattle.std.proofs.lemmas.List.Elements.{All-from_recursion, All-nil, recursion_from_All}
@@ -21,7 +21,8 @@ use Rattle.vt_tree.specs.declared.statement.Simple.TheVariants as simples
 use Rattle.vt_tree.specs.declared.statement.Stmt.{Stmt, roll-Stmt, map-Stmt}
 use Rattle.vt_tree.specs.declared.statement.StmtForm.{StmtForm, roll-StmtForm, map-StmtForm}
 use Rattle.vt_tree.specs.declared.statement.StmtForm.TheVariants as forms
-use Rattle.vt_tree.specs.Forms.{IsName, IsLiteral, is_label_name}
+use Rattle.vt_frac.specs.Names.{IsName, is_label_name}
+use Rattle.vt_tree.specs.Forms.{IsLiteral}
 use Rattle.vt_tree.specs.Parts.{Part as TreePart, called, opened, Place, Walk, children, each, if_there, whole_block, inside, after_dot, at_line, node_parts, in_simple, in_form, in_call, in_expr, in_link, in_arm, in_stmt}
 use Rattle.vt_tree.specs.WellFormed.{is_op_of, IsLinkCount, GoodNode, GoodSimple, GoodForm, GoodCall, GoodExpr, GoodLink, GoodArm, GoodBlock, GoodStmt, IsFormedNode, IsFormedSimple, IsFormedStmtForm, IsFormedCall, IsFormedExpr, IsFormedLink, IsFormedArm, IsFormedBlock, IsFormedStmt}
 use Rattle.vt_tree.proofs.PartsLemmas.{in_node-is, in_node-out, in_simple-is, in_form-is, in_call-is, in_call-out, in_expr-is, in_expr-out, in_link-is, in_arm-is, in_block-is, in_stmt-is}

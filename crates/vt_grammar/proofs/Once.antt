@@ -10,12 +10,12 @@ within : (f : List Spelled) (t : Spelled) (r w : List Spelled) → w ≡ f ++ t 
 within f t r w e b = prefixes_begin (f ++ t ∷ []) r (subst Begins (e ∙ sym (append_assoc f (t ∷ []) r)) b)
 
 at_both : (tokens : List Spelled) (line other : ℕ) (a : RefusedAt tokens line) (b : RefusedAt tokens other)
-    → Cuts a.front (a.token ∷ a.rest) b.front (b.token ∷ b.rest) → line ≡ other
+    → Cuts a.prefix (a.token ∷ a.rest) b.prefix (b.token ∷ b.rest) → line ≡ other
 at_both tokens line other a b (equal p q) = a.line_is ∙ ap (λ (s : Spelled). s.token.line) (let same : a.token ≡ b.token = cc in same) ∙ sym b.line_is
 at_both tokens line other a b (longer t u p q) =
-    absurd (b.stops (within b.front b.token u a.front (p ∙ ap (λ z. b.front ++ z ∷ u) (let same : t ≡ b.token = cc in same)) a.begun))
+    absurd (b.stops (within b.prefix b.token u a.prefix (p ∙ ap (λ z. b.prefix ++ z ∷ u) (let same : t ≡ b.token = cc in same)) a.begun))
 at_both tokens line other a b (shorter t u p q) =
-    absurd (a.stops (within a.front a.token u b.front (p ∙ ap (λ z. a.front ++ z ∷ u) (let same : t ≡ a.token = cc in same)) b.begun))
+    absurd (a.stops (within a.prefix a.token u b.prefix (p ∙ ap (λ z. a.prefix ++ z ∷ u) (let same : t ≡ a.token = cc in same)) b.begun))
 
 last_same : (f g : List Spelled) (x y : Spelled) → f ++ x ∷ [] ≡ g ++ y ∷ [] → x ≡ y
 last_same [] [] x y e = cc
@@ -32,8 +32,8 @@ last_same (c ∷ f) [] x y e = absurd (none f x (let tail : f ++ x ∷ [] ≡ []
 last_same (c ∷ f) (d ∷ g) x y e = last_same f g x y (let tail : f ++ x ∷ [] ≡ g ++ y ∷ [] = cc in tail)
 
 pub is_refused_once : (tokens : List Spelled) (line other : ℕ) → SyntaxRefuses tokens line → SyntaxRefuses tokens other → line ≡ other
-is_refused_once tokens line other (inl a) (inl b) = at_both tokens line other a b (cuts a.front (a.token ∷ a.rest) b.front (b.token ∷ b.rest) (sym a.whole ∙ b.whole))
-is_refused_once tokens line other (inl a) (inr b) = absurd (a.stops (within a.front a.token a.rest tokens a.whole b.begun))
-is_refused_once tokens line other (inr a) (inl b) = absurd (b.stops (within b.front b.token b.rest tokens b.whole a.begun))
+is_refused_once tokens line other (inl a) (inl b) = at_both tokens line other a b (cuts a.prefix (a.token ∷ a.rest) b.prefix (b.token ∷ b.rest) (sym a.whole ∙ b.whole))
+is_refused_once tokens line other (inl a) (inr b) = absurd (a.stops (within a.prefix a.token a.rest tokens a.whole b.begun))
+is_refused_once tokens line other (inr a) (inl b) = absurd (b.stops (within b.prefix b.token b.rest tokens b.whole a.begun))
 is_refused_once tokens line other (inr a) (inr b) =
-    a.line_is ∙ ap (λ (s : Spelled). s.token.line) (last_same a.front b.front a.last b.last (sym a.whole ∙ b.whole)) ∙ sym b.line_is
+    a.line_is ∙ ap (λ (s : Spelled). s.token.line) (last_same a.prefix b.prefix a.last b.last (sym a.whole ∙ b.whole)) ∙ sym b.line_is

@@ -1,16 +1,16 @@
 -- What is told of each value that a form reads from good marks: a relation between the value and the numbers of the blocks
 -- that the marks begin, in their order. One lemma for each way to build a form.
 use Rattle.std.proofs.Common.{◌≡◌, inl, inr, ℕ, Bool, true, false, cond, List, [], ◌∷◌, ◌++◌, Option, Some, None, refl, sym, ap, ◌∙◌, subst, append-nil, append_assoc}
-use Rattle.vt_grammar.specs.declared.words.Word.{Word}
+use Rattle.vt_grammar.specs.declared.terminals.Terminal.{Terminal}
 use Rattle.vt_grammar.specs.Form.{Form, Split, IsOne, empty, nothing, next, either, mapped, optional, only, with_its, AreMany, many, AreFrom, many_from}
 use Rattle.vt_grammar.specs.Marks.{Mark, begins_block}
-use Rattle.vt_grammar.specs.Grammar.{word, among}
-use Rattle.vt_grammar.proofs.WordSets.{disjoint, apart}
-use Rattle.vt_grammar.proofs.FormedMarks.{IsGood, AreGood, good_front, good_rest}
+use Rattle.vt_grammar.specs.Grammar.{terminal, among}
+use Rattle.vt_grammar.proofs.TerminalSets.{disjoint, apart}
+use Rattle.vt_grammar.proofs.FormedMarks.{IsGood, AreGood, good_prefix, good_rest}
 
 -- the number of the block that the mark begins, if it begins one
 abbrev pub begun_by : Mark → List ℕ
-begun_by t = cond (begins_block t.word) (t.number ∷ []) []
+begun_by t = cond (begins_block t.terminal) (t.number ∷ []) []
 
 -- the numbers of the blocks that the marks begin
 abbrev pub begun : List Mark → List ℕ
@@ -39,10 +39,10 @@ pub record IsBegin (t : Mark) (ns : List ℕ) : Type 0 where
 
 -- the numbers are those of the first value and then those of the second
 pub record Both {A B : Type 0} (R : A → List ℕ → Type 0) (S : A → B → List ℕ → Type 0) (v : A × B) (ns : List ℕ) : Type 0 where
-  pub front : List ℕ
+  pub prefix : List ℕ
   pub rest : List ℕ
-  pub whole : ns ≡ front ++ rest
-  pub first : R v.0 front
+  pub whole : ns ≡ prefix ++ rest
+  pub first : R v.0 prefix
   pub second : S v.0 v.1 rest
 
 abbrev pub IfThere : {V : Type 0} → (V → List ℕ → Type 0) → Option V → List ℕ → Type 0
@@ -71,20 +71,20 @@ pub record EachFrom {S V : Type 0} (go : S → V → S) (R : S → V → List �
 
 -- Marks
 
-quiet_word : (F : Word → Bool) → disjoint F begins_block ≡ true → (t : Mark) → F t.word ≡ true → begins_block t.word ≡ false
-quiet_word F d t h = go (begins_block t.word) refl
+quiet_terminal : (F : Terminal → Bool) → disjoint F begins_block ≡ true → (t : Mark) → F t.terminal ≡ true → begins_block t.terminal ≡ false
+quiet_terminal F d t h = go (begins_block t.terminal) refl
   where
-    go : (b : Bool) → begins_block t.word ≡ b → begins_block t.word ≡ false
+    go : (b : Bool) → begins_block t.terminal ≡ b → begins_block t.terminal ≡ false
     go false e = e
     go true e = absurd (apart {F = F} {G = begins_block} d t (record { is = h }) (record { is = e }))
 
-none_begun : (t : Mark) → begins_block t.word ≡ false → begun (t ∷ []) ≡ []
+none_begun : (t : Mark) → begins_block t.terminal ≡ false → begun (t ∷ []) ≡ []
 none_begun t e = ap (λ b. cond b (t.number ∷ []) [] ++ []) e
 
-own_begun : (t : Mark) → begins_block t.word ≡ true → begun (t ∷ []) ≡ t.number ∷ []
+own_begun : (t : Mark) → begins_block t.terminal ≡ true → begun (t ∷ []) ≡ t.number ∷ []
 own_begun t e = ap (λ b. cond b (t.number ∷ []) [] ++ []) e
 
-one_quiet : (P : Mark → Type 0) → ((t : Mark) → P t → begins_block t.word ≡ false) → (tokens : List Mark) (v : Mark) → IsOne (λ t. P t × (v ≡ t)) tokens
+one_quiet : (P : Mark → Type 0) → ((t : Mark) → P t → begins_block t.terminal ≡ false) → (tokens : List Mark) (v : Mark) → IsOne (λ t. P t × (v ≡ t)) tokens
     → AreGood tokens → IsQuiet P v (begun tokens)
 one_quiet P q [] v h g = absurd h
 one_quiet P q (t ∷ []) v h g = record {
@@ -94,20 +94,20 @@ one_quiet P q (t ∷ []) v h g = record {
 }
 one_quiet P q (t ∷ u ∷ ts) v h g = absurd h
 
-one_begin : (w : Word) → begins_block w ≡ true → (tokens : List Mark) (v : Mark) → IsOne (λ t. (t.word ≡ w) × (v ≡ t)) tokens → IsBegin v (begun tokens)
+one_begin : (w : Terminal) → begins_block w ≡ true → (tokens : List Mark) (v : Mark) → IsOne (λ t. (t.terminal ≡ w) × (v ≡ t)) tokens → IsBegin v (begun tokens)
 one_begin w b [] v h = absurd h
 one_begin w b (t ∷ []) v h = record {
   begins_own = own_begun t (ap begins_block h.0 ∙ b) ∙ ap (λ (z : Mark). z.number ∷ []) (sym h.1);
 }
 one_begin w b (t ∷ u ∷ ts) v h = absurd h
 
-pub among_tells : (F : Word → Bool) → disjoint F begins_block ≡ true → Tells (among F) (IsQuiet (λ t. F t.word ≡ true))
-among_tells F d = record { told = λ tokens v h g. one_quiet (λ t. F t.word ≡ true) (λ t e. quiet_word F d t e) tokens v h g }
+pub among_tells : (F : Terminal → Bool) → disjoint F begins_block ≡ true → Tells (among F) (IsQuiet (λ t. F t.terminal ≡ true))
+among_tells F d = record { told = λ tokens v h g. one_quiet (λ t. F t.terminal ≡ true) (λ t e. quiet_terminal F d t e) tokens v h g }
 
-pub word_tells : (w : Word) → begins_block w ≡ false → Tells (word w) (IsQuiet (λ t. t.word ≡ w))
-word_tells w b = record { told = λ tokens v h g. one_quiet (λ t. t.word ≡ w) (λ t e. ap begins_block e ∙ b) tokens v h g }
+pub terminal_tells : (w : Terminal) → begins_block w ≡ false → Tells (terminal w) (IsQuiet (λ t. t.terminal ≡ w))
+terminal_tells w b = record { told = λ tokens v h g. one_quiet (λ t. t.terminal ≡ w) (λ t e. ap begins_block e ∙ b) tokens v h g }
 
-pub begin_tells : (w : Word) → begins_block w ≡ true → Tells (word w) IsBegin
+pub begin_tells : (w : Terminal) → begins_block w ≡ true → Tells (terminal w) IsBegin
 begin_tells w b = record { told = λ tokens v h g. one_begin w b tokens v h }
 
 -- Ways to build a form
@@ -154,13 +154,13 @@ pub next_tells : {A B : Type 0} {a : Form Mark A} {k : A → Form Mark B} {R : A
     → Tells a R → ((v : A) → Tells (k v) (S v)) → Tells (next a k) (Both R S)
 next_tells ta tk = record {
   told = λ tokens v h g.
-      let good : AreGood (h.front ++ h.rest) = subst AreGood h.whole g in
+      let good : AreGood (h.prefix ++ h.rest) = subst AreGood h.whole g in
       record {
-        front = begun h.front;
+        prefix = begun h.prefix;
         rest = begun h.rest;
-        whole = ap begun h.whole ∙ begun-append h.front h.rest;
-        first = ta.told h.front v.0 h.first (good_front h.front h.rest good);
-        second = (tk v.0).told h.rest v.1 h.second (good_rest h.front h.rest good);
+        whole = ap begun h.whole ∙ begun-append h.prefix h.rest;
+        first = ta.told h.prefix v.0 h.first (good_prefix h.prefix h.rest good);
+        second = (tk v.0).told h.rest v.1 h.second (good_rest h.prefix h.rest good);
       };
 }
 
@@ -173,13 +173,13 @@ many_told : {V : Type 0} (a : Form Mark V) (R : V → List ℕ → Type 0) → T
     → InOrder R vs (begun tokens)
 many_told a R ta [] tokens h g = ap begun h
 many_told a R ta (v ∷ vs) tokens h g =
-    let good : AreGood (h.front ++ h.rest) = subst AreGood h.whole g in
+    let good : AreGood (h.prefix ++ h.rest) = subst AreGood h.whole g in
     record {
-      front = begun h.front;
+      prefix = begun h.prefix;
       rest = begun h.rest;
-      whole = ap begun h.whole ∙ begun-append h.front h.rest;
-      first = ta.told h.front v h.first (good_front h.front h.rest good);
-      second = many_told a R ta vs h.rest h.second (good_rest h.front h.rest good);
+      whole = ap begun h.whole ∙ begun-append h.prefix h.rest;
+      first = ta.told h.prefix v h.first (good_prefix h.prefix h.rest good);
+      second = many_told a R ta vs h.rest h.second (good_rest h.prefix h.rest good);
     }
 
 pub many_tells : {V : Type 0} {a : Form Mark V} {R : V → List ℕ → Type 0} → Tells a R → Tells (many a) (Each R)
@@ -189,13 +189,13 @@ from_told : {S V : Type 0} (go : S → V → S) (a : S → Form Mark V) (R : S �
     → AreFrom go (λ s. (a s).reads) s tokens vs → AreGood tokens → FromState go R s vs (begun tokens)
 from_told go a R ta [] s tokens h g = ap begun h
 from_told go a R ta (v ∷ vs) s tokens h g =
-    let good : AreGood (h.front ++ h.rest) = subst AreGood h.whole g in
+    let good : AreGood (h.prefix ++ h.rest) = subst AreGood h.whole g in
     record {
-      front = begun h.front;
+      prefix = begun h.prefix;
       rest = begun h.rest;
-      whole = ap begun h.whole ∙ begun-append h.front h.rest;
-      first = (ta s).told h.front v h.first (good_front h.front h.rest good);
-      second = from_told go a R ta vs (go s v) h.rest h.second (good_rest h.front h.rest good);
+      whole = ap begun h.whole ∙ begun-append h.prefix h.rest;
+      first = (ta s).told h.prefix v h.first (good_prefix h.prefix h.rest good);
+      second = from_told go a R ta vs (go s v) h.rest h.second (good_rest h.prefix h.rest good);
     }
 
 pub many_from_tells : {S V : Type 0} (go : S → V → S) (a : S → Form Mark V) (R : S → V → List ℕ → Type 0) → ((s : S) → Tells (a s) (R s)) → (s : S)
@@ -206,9 +206,9 @@ many_from_tells go a R ta s = record { told = λ tokens vs h g. record { is = fr
 
 pub after_quiet : {A B : Type 0} {P : A → List ℕ → Type 0} {S : B → List ℕ → Type 0} {v : A × B} {ns : List ℕ} → Both P (λ _. S) v ns
     → ((ms : List ℕ) → P v.0 ms → ms ≡ []) → S v.1 ns
-after_quiet {S = S} {v = v} h q = subst (λ z. S v.1 z) (sym (h.whole ∙ ap (λ z. z ++ h.rest) (q h.front h.first))) h.second
+after_quiet {S = S} {v = v} h q = subst (λ z. S v.1 z) (sym (h.whole ∙ ap (λ z. z ++ h.rest) (q h.prefix h.first))) h.second
 
 pub before_quiet : {A B : Type 0} {R : A → List ℕ → Type 0} {P : A → B → List ℕ → Type 0} {v : A × B} {ns : List ℕ} → Both R P v ns
     → ((ms : List ℕ) → P v.0 v.1 ms → ms ≡ []) → R v.0 ns
 before_quiet {R = R} {v = v} h q =
-    subst (λ z. R v.0 z) (sym (h.whole ∙ ap (λ z. h.front ++ z) (q h.rest h.second) ∙ append-nil h.front)) h.first
+    subst (λ z. R v.0 z) (sym (h.whole ∙ ap (λ z. h.prefix ++ z) (q h.rest h.second) ∙ append-nil h.prefix)) h.first

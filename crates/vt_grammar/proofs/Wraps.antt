@@ -6,7 +6,7 @@ use Rattle.vt_tree.specs.declared.expression.Link.{Link}
 use Rattle.vt_grammar.specs.declared.parts.Arguments.{Arguments}
 use Rattle.vt_grammar.specs.declared.parts.Part.{Part}
 use Rattle.vt_grammar.specs.declared.parts.Part.TheVariants as parts
-use Rattle.vt_grammar.specs.declared.words.Word.{Word}
+use Rattle.vt_grammar.specs.declared.terminals.Terminal.{Terminal}
 use Rattle.vt_grammar.specs.Form.{Form, either}
 use Rattle.vt_grammar.specs.Marks.{Mark}
 use Rattle.vt_grammar.specs.Trees.{named_value, is_bare_get, with_part, with_parts, chain_tree, comparison}
@@ -53,9 +53,9 @@ named_round name (Some given) = refl
 is_within : (n : ℕ) (v w : Expr) → v ≡ w → (out-Expr w).wraps ≤ n → (out-Expr v).wraps ≤ n
 is_within n v w e h = subst (λ (z : Expr). (out-Expr z).wraps ≤ n) (sym e) h
 
-chain_within : (n : ℕ) (kind : ChainKind) (ops : Word → Bool) {a : Form Mark Expr} → Within a n → Within (chain kind ops a) n
+chain_within : (n : ℕ) (kind : ChainKind) (ops : Terminal → Bool) {a : Form Mark Expr} → Within a n → Within (chain kind ops a) n
 unfolding chain
-chain_within n kind ops p = record { within = λ x v h. is_within n v _ h.2 (chain_round n kind h.0.0 h.0.1 (p.within h.1.front h.0.0 h.1.first)) }
+chain_within n kind ops p = record { within = λ x v h. is_within n v _ h.2 (chain_round n kind h.0.0 h.0.1 (p.within h.1.prefix h.0.0 h.1.first)) }
 
 module _ (s : Opened) (n : ℕ) (parens : Within s.parens n) (list : Within s.list n) where
   primary_within : Within (primary s) n
@@ -65,7 +65,7 @@ module _ (s : Opened) (n : ℕ) (parens : Within s.parens n) (list : Within s.li
 
   postfix_within : Within (postfix s) n
   unfolding postfix
-  postfix_within = record { within = λ x v h. is_within n v _ h.2 (parts_round n h.0.0 h.0.1 (primary_within.within h.1.front h.0.0 h.1.first)) }
+  postfix_within = record { within = λ x v h. is_within n v _ h.2 (parts_round n h.0.0 h.0.1 (primary_within.within h.1.prefix h.0.0 h.1.first)) }
 
   unary_within : Within (unary s) n
   unfolding unary signed
@@ -75,7 +75,7 @@ module _ (s : Opened) (n : ℕ) (parens : Within s.parens n) (list : Within s.li
   unfolding comp sum term
   comp_within = record {
     within = λ x v h. is_within n v _ h.2 (comparison_round n h.0.0 h.0.1
-        ((chain_within n _ _ (chain_within n _ _ unary_within)).within h.1.front h.0.0 h.1.first));
+        ((chain_within n _ _ (chain_within n _ _ unary_within)).within h.1.prefix h.0.0 h.1.first));
   }
 
   expr_within : Within (expr s) n
@@ -94,7 +94,7 @@ both_within zero = (record { within = λ x v h. absurd h }, record { within = λ
 both_within (suc n) = (
   record {
     within = λ x v h. is_within (suc n) v _ h.2
-        (let inner = (cond_within (opened n) n (both_within n).0 (both_within n).1).within h.1.second.front h.0.1.0 h.1.second.first in omega (arith, inner));
+        (let inner = (cond_within (opened n) n (both_within n).0 (both_within n).1).within h.1.second.prefix h.0.1.0 h.1.second.first in omega (arith, inner));
   },
   none_round _ (suc n) (λ x v h. subst (λ (z : Expr). (out-Expr z).wraps ≡ 0) (sym h.2) refl),
 )

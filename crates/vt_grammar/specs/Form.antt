@@ -8,12 +8,12 @@ pub record Form (T V : Type 0) : Type 1 where
   pub reads : List T → V → Type 0
   pub begins : List T → Type 0
 
--- the list is a front and a rest, of which these hold
+-- the list is a prefix and a rest, of which these hold
 pub record Split {T : Type 0} (tokens : List T) (P Q : List T → Type 0) : Type 0 where
-  pub front : List T
+  pub prefix : List T
   pub rest : List T
-  pub whole : tokens ≡ front ++ rest
-  pub first : P front
+  pub whole : tokens ≡ prefix ++ rest
+  pub first : P prefix
   pub second : Q rest
 
 -- the list has one token, of which this holds

@@ -1,5 +1,7 @@
--- The grammar: each piece as a form of lists of marks. It is the table of docs/LANGUAGE.md, piece by piece and in its order
--- from the bottom, under the same names. All of this is the project's own.
+-- The grammar: each rule as a form of lists of marks. Each row of the table in docs/LANGUAGE.md is the rule of its name here,
+-- but that `cond` is `cond_form`, `text` stands in `Text`, and the rows that open a bracket or a block (`index`, `braces`,
+-- `doblock`, `iff`) are fields of `Opened`, whose rules stand last, as `index_of`. The other rules are parts of a row. All of this
+-- is the project's own.
 use Rattle.std.specs.Prelude.{◌≡◌, ℕ, zero, suc, Bool, true, false, ◌||◌, is_some, List, [], ◌∷◌, Option, Some, None}
 use Rattle.vt_tree.specs.declared.expression.Expr.{Expr}
 use Rattle.vt_tree.specs.declared.expression.Node.TheVariants as nodes
@@ -15,93 +17,93 @@ use Rattle.vt_tree.specs.declared.statement.Stmt.{Stmt}
 use Rattle.vt_grammar.specs.declared.parts.Arguments.{Arguments}
 use Rattle.vt_grammar.specs.declared.parts.Part.{Part}
 use Rattle.vt_grammar.specs.declared.parts.Part.TheVariants as parts
-use Rattle.vt_grammar.specs.declared.words.Word.{Word}
-use Rattle.vt_grammar.specs.declared.words.Word.TheVariants as words
+use Rattle.vt_grammar.specs.declared.terminals.Terminal.{Terminal}
+use Rattle.vt_grammar.specs.declared.terminals.Terminal.TheVariants as terminals
 use Rattle.vt_grammar.specs.Form.{Form, one, empty, nothing, next, either, mapped, optional, only, with_its, many, many_from}
 use Rattle.vt_grammar.specs.Marks.{Mark}
 use Rattle.vt_grammar.specs.Values.{literal_of, label_name}
 use Rattle.vt_grammar.specs.Trees.{Argument, Left, gathered, no_arguments, plain, wrapped, call_of, named_value, dot_value, left_after, comparison, is_bare_get, with_parts, signed_tree, link_tree, chain_tree, takes_block, with_block, set_of, is_unless, form_tree, stmt_tree, arm_tree, block_tree, present}
 
--- Words
+-- Terminals
 
--- one token of this word
-abbrev pub word : Word → Form Mark Mark
-word w = one (λ t. t.word ≡ w)
+-- one token of this terminal
+abbrev pub terminal : Terminal → Form Mark Mark
+terminal w = one (λ t. t.terminal ≡ w)
 
--- one token of one of these words
-abbrev pub among : (Word → Bool) → Form Mark Mark
-among F = one (λ t. F t.word ≡ true)
+-- one token of one of these terminals
+abbrev pub among : (Terminal → Bool) → Form Mark Mark
+among F = one (λ t. F t.terminal ≡ true)
 
-abbrev pub is_literal : Word → Bool
-is_literal words.Whole = true
-is_literal words.Decimal = true
-is_literal words.Text = true
-is_literal words.Symbol = true
-is_literal words.Nil = true
-is_literal words.True = true
-is_literal words.False = true
+abbrev pub is_literal : Terminal → Bool
+is_literal terminals.Whole = true
+is_literal terminals.Decimal = true
+is_literal terminals.Text = true
+is_literal terminals.Symbol = true
+is_literal terminals.Nil = true
+is_literal terminals.True = true
+is_literal terminals.False = true
 is_literal _ = false
 
-abbrev pub is_paren_open : Word → Bool
-is_paren_open words.CallOpen = true
-is_paren_open words.ParenOpen = true
+abbrev pub is_paren_open : Terminal → Bool
+is_paren_open terminals.CallOpen = true
+is_paren_open terminals.ParenOpen = true
 is_paren_open _ = false
 
-abbrev pub is_list_open : Word → Bool
-is_list_open words.IndexOpen = true
-is_list_open words.ListOpen = true
+abbrev pub is_list_open : Terminal → Bool
+is_list_open terminals.IndexOpen = true
+is_list_open terminals.ListOpen = true
 is_list_open _ = false
 
-abbrev pub is_sign : Word → Bool
-is_sign words.Minus = true
-is_sign words.TightMinus = true
-is_sign words.Bang = true
+abbrev pub is_sign : Terminal → Bool
+is_sign terminals.Minus = true
+is_sign terminals.TightMinus = true
+is_sign terminals.Bang = true
 is_sign _ = false
 
-abbrev pub is_term_op : Word → Bool
-is_term_op words.Star = true
-is_term_op words.Slash = true
-is_term_op words.Percent = true
+abbrev pub is_term_op : Terminal → Bool
+is_term_op terminals.Star = true
+is_term_op terminals.Slash = true
+is_term_op terminals.Percent = true
 is_term_op _ = false
 
-abbrev pub is_sum_op : Word → Bool
-is_sum_op words.Plus = true
-is_sum_op words.Minus = true
-is_sum_op words.TightMinus = true
+abbrev pub is_sum_op : Terminal → Bool
+is_sum_op terminals.Plus = true
+is_sum_op terminals.Minus = true
+is_sum_op terminals.TightMinus = true
 is_sum_op _ = false
 
-abbrev pub is_comp_op : Word → Bool
-is_comp_op words.Same = true
-is_comp_op words.Differs = true
-is_comp_op words.Below = true
-is_comp_op words.AtMost = true
-is_comp_op words.Above = true
-is_comp_op words.AtLeast = true
+abbrev pub is_comp_op : Terminal → Bool
+is_comp_op terminals.Same = true
+is_comp_op terminals.Differs = true
+is_comp_op terminals.Below = true
+is_comp_op terminals.AtMost = true
+is_comp_op terminals.Above = true
+is_comp_op terminals.AtLeast = true
 is_comp_op _ = false
 
-abbrev pub is_conj_op : Word → Bool
-is_conj_op words.Both = true
+abbrev pub is_conj_op : Terminal → Bool
+is_conj_op terminals.Both = true
 is_conj_op _ = false
 
-abbrev pub is_disj_op : Word → Bool
-is_disj_op words.Either = true
+abbrev pub is_disj_op : Terminal → Bool
+is_disj_op terminals.Either = true
 is_disj_op _ = false
 
-abbrev pub is_expr_op : Word → Bool
-is_expr_op words.And = true
-is_expr_op words.Or = true
+abbrev pub is_expr_op : Terminal → Bool
+is_expr_op terminals.And = true
+is_expr_op terminals.Or = true
 is_expr_op _ = false
 
-abbrev pub is_set : Word → Bool
-is_set words.Set = true
-is_set words.SetPlus = true
-is_set words.SetMinus = true
-is_set words.SetTimes = true
+abbrev pub is_set : Terminal → Bool
+is_set terminals.Set = true
+is_set terminals.SetPlus = true
+is_set terminals.SetMinus = true
+is_set terminals.SetTimes = true
 is_set _ = false
 
-abbrev pub is_condition : Word → Bool
-is_condition words.If = true
-is_condition words.Unless = true
+abbrev pub is_condition : Terminal → Bool
+is_condition terminals.If = true
+is_condition terminals.Unless = true
 is_condition _ = false
 
 -- What opens
@@ -125,14 +127,14 @@ literal = mapped (λ (t : Mark). plain (nodes.Literal (literal_of t))) (among is
 
 -- a name, or a name and arguments in parentheses
 unfoldable pub named : Opened → Form Mark Expr
-named o = mapped (λ (p : Mark × Option Arguments). named_value p.0.bytes p.1) (next (word words.Name) (λ _. optional o.call))
+named o = mapped (λ (p : Mark × Option Arguments). named_value p.0.bytes p.1) (next (terminal terminals.Name) (λ _. optional o.call))
 
 unfoldable pub primary : Opened → Form Mark Expr
 primary o = either literal (either (named o) (either o.parens o.list))
 
 unfoldable pub dot : Opened → Form Mark Call
 dot o = mapped (λ (p : Mark × (Mark × (Option Arguments × Option Block))). dot_value p.1.0.bytes p.1.1.0 p.1.1.1)
-    (next (word words.Dot) (λ _. next (word words.Name) (λ _. next (optional o.call) (λ _. optional o.braces))))
+    (next (terminal terminals.Dot) (λ _. next (terminal terminals.Name) (λ _. next (optional o.call) (λ _. optional o.braces))))
 
 -- an index or a dot, where one more may follow
 unfoldable pub part : Opened → Left → Form Mark Part
@@ -156,11 +158,11 @@ unfoldable pub unary : Opened → Form Mark Expr
 unary o = either (signed o) (postfix o)
 
 -- an operator of these and the part after it
-unfoldable pub link : (Word → Bool) → Form Mark Expr → Form Mark Link
+unfoldable pub link : (Terminal → Bool) → Form Mark Expr → Form Mark Link
 link ops a = mapped link_tree (next (among ops) (λ _. a))
 
 -- parts with operators of these between them
-unfoldable pub chain : ChainKind → (Word → Bool) → Form Mark Expr → Form Mark Expr
+unfoldable pub chain : ChainKind → (Terminal → Bool) → Form Mark Expr → Form Mark Expr
 chain kind ops a = mapped (λ (p : Expr × List Link). chain_tree kind p.0 p.1) (next a (λ _. many (link ops a)))
 
 unfoldable pub term : Opened → Form Mark Expr
@@ -181,7 +183,7 @@ unfoldable pub disj : Opened → Form Mark Expr
 disj o = chain chains.Disj is_disj_op (conj o)
 
 unfoldable pub negated : Opened → Form Mark Expr
-negated o = mapped signed_tree (next (word words.Not) (λ _. disj o))
+negated o = mapped signed_tree (next (terminal terminals.Not) (λ _. disj o))
 
 unfoldable pub negation : Opened → Form Mark Expr
 negation o = either (negated o) (disj o)
@@ -192,7 +194,7 @@ expr o = chain chains.Expr is_expr_op (negation o)
 -- Arguments
 
 unfoldable pub labelled_arg : Opened → Form Mark Argument
-labelled_arg o = mapped (λ (p : Mark × Expr). (Some (label_name p.0.bytes), p.1)) (next (word words.Label) (λ _. expr o))
+labelled_arg o = mapped (λ (p : Mark × Expr). (Some (label_name p.0.bytes), p.1)) (next (terminal terminals.Label) (λ _. expr o))
 
 unfoldable pub plain_arg : Opened → Form Mark Argument
 plain_arg o = mapped (λ (e : Expr). (None, e)) (expr o)
@@ -203,7 +205,7 @@ arg o true = labelled_arg o
 arg o false = either (labelled_arg o) (plain_arg o)
 
 unfoldable pub next_arg : Opened → Bool → Form Mark Argument
-next_arg o s = mapped (λ (p : Mark × Argument). p.1) (next (word words.Comma) (λ _. arg o s))
+next_arg o s = mapped (λ (p : Mark × Argument). p.1) (next (terminal terminals.Comma) (λ _. arg o s))
 
 abbrev pub has_label : Argument → Bool
 has_label a = is_some a.0
@@ -216,7 +218,7 @@ args o = mapped (λ (p : Argument × List Argument). gathered no_arguments (p.0 
     (next (arg o false) (λ a. many_from labels_begun (next_arg o) (has_label a)))
 
 unfoldable pub next_item : Opened → Form Mark Expr
-next_item o = mapped (λ (p : Mark × Expr). p.1) (next (word words.Comma) (λ _. expr o))
+next_item o = mapped (λ (p : Mark × Expr). p.1) (next (terminal terminals.Comma) (λ _. expr o))
 
 -- the items of a list, which have no labels
 unfoldable pub items : Opened → Form Mark (List Expr)
@@ -224,19 +226,19 @@ items o = mapped (λ (p : Expr × List Expr). p.0 ∷ p.1) (next (expr o) (λ _.
 
 -- Commands
 
--- with which words, after a gap, the arguments of a command may begin
-abbrev pub leads : Word → Bool
-leads words.Name = true
-leads words.Label = true
-leads words.ListOpen = true
-leads words.ParenOpen = true
-leads words.Bang = true
-leads words.TightMinus = true
+-- with which terminals, after a gap, the arguments of a command may begin
+abbrev pub leads : Terminal → Bool
+leads terminals.Name = true
+leads terminals.Label = true
+leads terminals.ListOpen = true
+leads terminals.ParenOpen = true
+leads terminals.Bang = true
+leads terminals.TightMinus = true
 leads w = is_literal w
 
 -- a token that makes the name before it the head of a command
 abbrev pub Leads : Mark → Type 0
-Leads t = (t.gap ≡ true) × (leads t.word ≡ true)
+Leads t = (t.gap ≡ true) × (leads t.terminal ≡ true)
 
 -- the first token, where there is one, is such a token
 abbrev pub IsLed : List Mark → Type 0
@@ -247,11 +249,11 @@ IsLed (t ∷ ts) = Leads t
 abbrev pub IsPlain : List Mark → Type 0
 IsPlain [] = Unit {0}
 IsPlain (t ∷ []) = Unit {0}
-IsPlain (t ∷ u ∷ ts) = t.word ≡ words.Name → Leads u → ⊥
+IsPlain (t ∷ u ∷ ts) = t.terminal ≡ terminals.Name → Leads u → ⊥
 
 unfoldable pub command : Opened → Form Mark Expr
 command o = mapped (λ (p : Mark × Arguments). plain (nodes.Call (call_of p.0.bytes false p.1 None)))
-    (next (word words.Name) (λ _. only IsLed (args o)))
+    (next (terminal terminals.Name) (λ _. only IsLed (args o)))
 
 -- a command or an expression, which is also what a condition is
 unfoldable pub cond_form : Opened → Form Mark Expr
@@ -268,15 +270,15 @@ unfoldable pub rhs : Opened → Form Mark Expr
 rhs o = mapped (λ (p : Expr × Option Block). with_block p.0 p.1) (next (cond_form o) (λ e. block_where o (takes_block e)))
 
 unfoldable pub assign : Opened → Form Mark Simple
-assign o = mapped (λ (p : Mark × (Mark × Expr)). simples.Assign p.0.bytes (set_of p.1.0.word) p.1.1)
-    (next (word words.Name) (λ _. next (among is_set) (λ _. rhs o)))
+assign o = mapped (λ (p : Mark × (Mark × Expr)). simples.Assign p.0.bytes (set_of p.1.0.terminal) p.1.1)
+    (next (terminal terminals.Name) (λ _. next (among is_set) (λ _. rhs o)))
 
 unfoldable pub simple : Opened → Form Mark Simple
 simple o = either o.iff (either (assign o) (mapped (λ (e : Expr). simples.Value e) (rhs o)))
 
 -- `if` or `unless` after a statement, with its condition
 unfoldable pub modifier : Opened → Form Mark (Bool × Expr)
-modifier o = mapped (λ (p : Mark × Expr). (is_unless p.0.word, p.1)) (next (among is_condition) (λ _. cond_form o))
+modifier o = mapped (λ (p : Mark × Expr). (is_unless p.0.terminal, p.1)) (next (among is_condition) (λ _. cond_form o))
 
 abbrev pub first_line : List Mark → ℕ
 first_line [] = 0
@@ -288,7 +290,7 @@ stmt o = mapped stmt_tree (with_its first_line (mapped (λ (p : Simple × Option
 
 -- a line after the first: a statement or nothing after a newline
 unfoldable pub line : Opened → Form Mark (Option Stmt)
-line o = mapped (λ (p : Mark × Option Stmt). p.1) (next (word words.Newline) (λ _. optional (stmt o)))
+line o = mapped (λ (p : Mark × Option Stmt). p.1) (next (terminal terminals.Newline) (λ _. optional (stmt o)))
 
 -- lines, each with a statement or none
 unfoldable pub block : Opened → Form Mark (List Stmt)
@@ -297,7 +299,7 @@ block o = mapped (λ (p : Option Stmt × List (Option Stmt)). present (p.0 ∷ p
 -- Blocks
 
 unfoldable pub next_param : Form Mark Mark
-next_param = mapped (λ (p : Mark × Mark). p.1) (next (word words.Comma) (λ _. word words.Name))
+next_param = mapped (λ (p : Mark × Mark). p.1) (next (terminal terminals.Comma) (λ _. terminal terminals.Name))
 
 abbrev pub names_of : List Mark → List (List ℕ)
 names_of [] = []
@@ -305,14 +307,14 @@ names_of (t ∷ ts) = t.bytes ∷ names_of ts
 
 unfoldable pub params : Form Mark (List (List ℕ))
 params = mapped (λ (p : Mark × (Mark × (List Mark × Mark))). names_of (p.1.0 ∷ p.1.1.0))
-    (next (word words.Bar) (λ _. next (word words.Name) (λ _. next (many next_param) (λ _. word words.Bar))))
+    (next (terminal terminals.Bar) (λ _. next (terminal terminals.Name) (λ _. next (many next_param) (λ _. terminal terminals.Bar))))
 
 unfoldable pub elsif : Opened → Form Mark Arm
 elsif o = mapped (λ (p : Mark × (Expr × (Mark × List Stmt))). arm_tree false p.1.0 p.1.1.1)
-    (next (word words.Elsif) (λ _. next (cond_form o) (λ _. next (word words.Newline) (λ _. block o))))
+    (next (terminal terminals.Elsif) (λ _. next (cond_form o) (λ _. next (terminal terminals.Newline) (λ _. block o))))
 
 unfoldable pub otherwise : Opened → Form Mark (List Stmt)
-otherwise o = mapped (λ (p : Mark × List Stmt). p.1) (next (word words.Else) (λ _. block o))
+otherwise o = mapped (λ (p : Mark × List Stmt). p.1) (next (terminal terminals.Else) (λ _. block o))
 
 -- The forms that begin with an opening, by what may stand inside
 
@@ -328,33 +330,33 @@ all_of (Some vs) = vs
 
 unfoldable pub parens_of : Opened → Form Mark Expr
 parens_of o = mapped (λ (p : Mark × (Expr × Mark)). wrapped p.1.0)
-    (next (among is_paren_open) (λ _. next (cond_form o) (λ _. word words.ParenClose)))
+    (next (among is_paren_open) (λ _. next (cond_form o) (λ _. terminal terminals.ParenClose)))
 
 unfoldable pub list_of : Opened → Form Mark Expr
 list_of o = mapped (λ (p : Mark × (Option (List Expr) × Mark)). plain (nodes.List (all_of p.1.0)))
-    (next (among is_list_open) (λ _. next (optional (items o)) (λ _. word words.ListClose)))
+    (next (among is_list_open) (λ _. next (optional (items o)) (λ _. terminal terminals.ListClose)))
 
 unfoldable pub call_of_args : Opened → Form Mark Arguments
 call_of_args o = mapped (λ (p : Mark × (Option Arguments × Mark)). arguments_of p.1.0)
-    (next (word words.CallOpen) (λ _. next (optional (args o)) (λ _. word words.ParenClose)))
+    (next (terminal terminals.CallOpen) (λ _. next (optional (args o)) (λ _. terminal terminals.ParenClose)))
 
 unfoldable pub index_of : Opened → Form Mark Expr
 index_of o = mapped (λ (p : Mark × (Expr × Mark)). p.1.0)
-    (next (word words.IndexOpen) (λ _. next (expr o) (λ _. word words.ListClose)))
+    (next (terminal terminals.IndexOpen) (λ _. next (expr o) (λ _. terminal terminals.ListClose)))
 
 unfoldable pub braces_of : Opened → Form Mark Block
 braces_of o = mapped (λ (p : Mark × (Option (List (List ℕ)) × (List Stmt × Mark))). block_tree p.0.number p.1.0 p.1.1.0)
-    (next (word words.BraceOpen) (λ _. next (optional params) (λ _. next (block o) (λ _. word words.BraceClose))))
+    (next (terminal terminals.BraceOpen) (λ _. next (optional params) (λ _. next (block o) (λ _. terminal terminals.BraceClose))))
 
 unfoldable pub doblock_of : Opened → Form Mark Block
 doblock_of o = mapped (λ (p : Mark × (Option (List (List ℕ)) × (Mark × (List Stmt × Mark)))). block_tree p.0.number p.1.0 p.1.1.1.0)
-    (next (word words.Do) (λ _. next (optional params) (λ _. next (word words.Newline) (λ _. next (block o) (λ _. word words.End)))))
+    (next (terminal terminals.Do) (λ _. next (optional params) (λ _. next (terminal terminals.Newline) (λ _. next (block o) (λ _. terminal terminals.End)))))
 
 unfoldable pub iff_of : Opened → Form Mark Simple
 iff_of o = mapped (λ (p : Mark × (Expr × (Mark × (List Stmt × (List Arm × (Option (List Stmt) × Mark)))))).
-    simples.Iff (arm_tree (is_unless p.0.word) p.1.0 p.1.1.1.0 ∷ p.1.1.1.1.0) p.1.1.1.1.1.0)
-    (next (among is_condition) (λ _. next (cond_form o) (λ _. next (word words.Newline) (λ _. next (block o) (λ _.
-    next (many (elsif o)) (λ _. next (optional (otherwise o)) (λ _. word words.End)))))))
+    simples.Iff (arm_tree (is_unless p.0.terminal) p.1.0 p.1.1.1.0 ∷ p.1.1.1.1.0) p.1.1.1.1.1.0)
+    (next (among is_condition) (λ _. next (cond_form o) (λ _. next (terminal terminals.Newline) (λ _. next (block o) (λ _.
+    next (many (elsif o)) (λ _. next (optional (otherwise o)) (λ _. terminal terminals.End)))))))
 
 -- Where n more may be opened: with 0 nothing has such a form, and what stands inside one may open one less.
 unfoldable pub opened : ℕ → Opened

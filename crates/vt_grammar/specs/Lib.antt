@@ -1,14 +1,10 @@
 pub mod Form
-pub mod Steps
 pub mod Marks
 pub mod Values
 pub mod Tokens
 pub mod Trees
 pub mod Grammar
-pub mod Sets
 pub mod Text
-pub mod Decided
-pub mod SameWords
-pub mod DecidedPieces
 pub mod Verdict
 pub mod Formed
+pub mod private

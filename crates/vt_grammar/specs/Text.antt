@@ -21,19 +21,19 @@ Begins tokens = text.begins (marked 0 tokens)
 
 -- the first token such that the tokens up to and with it begin no text stands on this line
 pub record RefusedAt (tokens : List Spelled) (line : ℕ) : Type 0 where
-  pub front : List Spelled
+  pub prefix : List Spelled
   pub token : Spelled
   pub rest : List Spelled
-  pub whole : tokens ≡ front ++ token ∷ rest
-  pub begun : Begins front
-  pub stops : Begins (front ++ token ∷ []) → ⊥
+  pub whole : tokens ≡ prefix ++ token ∷ rest
+  pub begun : Begins prefix
+  pub stops : Begins (prefix ++ token ∷ []) → ⊥
   pub line_is : line ≡ token.token.line
 
 -- all tokens begin a text and are none, and the last one stands on this line
 pub record RefusedAtEnd (tokens : List Spelled) (line : ℕ) : Type 0 where
-  pub front : List Spelled
+  pub prefix : List Spelled
   pub last : Spelled
-  pub whole : tokens ≡ front ++ last ∷ []
+  pub whole : tokens ≡ prefix ++ last ∷ []
   pub begun : Begins tokens
   pub unread : (tree : Block) → Reads tokens tree → ⊥
   pub line_is : line ≡ last.token.line
@@ -45,7 +45,7 @@ SyntaxRefuses tokens line = RefusedAt tokens line ⊎ RefusedAtEnd tokens line
 -- The laws
 
 abbrev pub PrefixesBegin : Type 0
-PrefixesBegin = (front rest : List Spelled) → Begins (front ++ rest) → Begins front
+PrefixesBegin = (prefix rest : List Spelled) → Begins (prefix ++ rest) → Begins prefix
 
 abbrev pub ReadBegins : Type 0
 ReadBegins = (tokens : List Spelled) (tree : Block) → Reads tokens tree → Begins tokens

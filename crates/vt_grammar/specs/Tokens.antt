@@ -1,7 +1,7 @@
 -- Tokens with the bytes that they have in their text.
 use Rattle.std.specs.Prelude.{◌≤◌, ℕ, List, [], ◌∷◌, length, slice_range}
 use Rattle.vt_lex.specs.declared.token.Token.{Token}
-use Rattle.vt_grammar.specs.Marks.{Spelled, word_of}
+use Rattle.vt_grammar.specs.Marks.{Spelled, terminal_of}
 use Rattle.vt_grammar.specs.Values.{HasValue}
 
 -- the bytes of a token of this text
@@ -17,7 +17,7 @@ spelled text (t ∷ ts) = spelled_in text t ∷ spelled text ts
 pub record IsToken (text : List ℕ) (t : Token) : Type 0 where
   pub ordered : t.from ≤ t.to
   pub inside : t.to ≤ length text
-  pub value : HasValue (word_of (spelled_in text t)) (slice_range text t.from t.to)
+  pub value : HasValue (terminal_of (spelled_in text t)) (slice_range text t.from t.to)
 
 abbrev pub AreTokens : List ℕ → List Token → Type 0
 AreTokens text [] = Unit {0}

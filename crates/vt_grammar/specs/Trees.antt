@@ -1,4 +1,4 @@
--- The trees that the pieces of the grammar are read given.
+-- The trees that the rules of the grammar are read given.
 use Rattle.std.specs.Prelude.{ℕ, suc, ◌-◌, Bool, true, false, ◌&&◌, cond, nat_eq, is_none, List, [], ◌∷◌, ◌++◌, codes, bytes_eq, Option, Some, None}
 use Rattle.vt_tree.specs.declared.expression.Expr.{Expr, out-Expr, roll-Expr}
 use Rattle.vt_tree.specs.declared.expression.Node.{Node, out-Node}
@@ -23,8 +23,8 @@ use Rattle.vt_tree.specs.declared.statement.StmtForm.TheVariants as forms
 use Rattle.vt_grammar.specs.declared.parts.Arguments.{Arguments}
 use Rattle.vt_grammar.specs.declared.parts.Part.{Part}
 use Rattle.vt_grammar.specs.declared.parts.Part.TheVariants as parts
-use Rattle.vt_grammar.specs.declared.words.Word.{Word}
-use Rattle.vt_grammar.specs.declared.words.Word.TheVariants as words
+use Rattle.vt_grammar.specs.declared.terminals.Terminal.{Terminal}
+use Rattle.vt_grammar.specs.declared.terminals.Terminal.TheVariants as terminals
 use Rattle.vt_grammar.specs.Marks.{Mark}
 
 -- a node without parentheses round it
@@ -107,35 +107,35 @@ with_parts e (p ∷ ps) = with_parts (with_part e p) ps
 abbrev pub Left : Type 0
 Left = ℕ × Bool
 
-abbrev pub sign_of : Word → UnaryOp
-sign_of words.Minus = unaries.Minus
-sign_of words.TightMinus = unaries.Minus
+abbrev pub sign_of : Terminal → UnaryOp
+sign_of terminals.Minus = unaries.Minus
+sign_of terminals.TightMinus = unaries.Minus
 sign_of _ = unaries.Not
 
 -- an operand after its sign
 abbrev pub signed_tree : Mark × Expr → Expr
-signed_tree (t, e) = plain (nodes.Unary (sign_of t.word) e)
+signed_tree (t, e) = plain (nodes.Unary (sign_of t.terminal) e)
 
-abbrev pub op_of : Word → ChainOp
-op_of words.And = ops.And
-op_of words.Or = ops.Or
-op_of words.Either = ops.Or
-op_of words.Both = ops.And
-op_of words.Same = ops.Eq
-op_of words.Differs = ops.Ne
-op_of words.Below = ops.Lt
-op_of words.AtMost = ops.Le
-op_of words.Above = ops.Gt
-op_of words.AtLeast = ops.Ge
-op_of words.Plus = ops.Add
-op_of words.Minus = ops.Sub
-op_of words.TightMinus = ops.Sub
-op_of words.Star = ops.Mul
-op_of words.Slash = ops.Div
+abbrev pub op_of : Terminal → ChainOp
+op_of terminals.And = ops.And
+op_of terminals.Or = ops.Or
+op_of terminals.Either = ops.Or
+op_of terminals.Both = ops.And
+op_of terminals.Same = ops.Eq
+op_of terminals.Differs = ops.Ne
+op_of terminals.Below = ops.Lt
+op_of terminals.AtMost = ops.Le
+op_of terminals.Above = ops.Gt
+op_of terminals.AtLeast = ops.Ge
+op_of terminals.Plus = ops.Add
+op_of terminals.Minus = ops.Sub
+op_of terminals.TightMinus = ops.Sub
+op_of terminals.Star = ops.Mul
+op_of terminals.Slash = ops.Div
 op_of _ = ops.Rem
 
 abbrev pub link_tree : Mark × Expr → Link
-link_tree (t, e) = roll-Link (record { op = op_of t.word; part = e })
+link_tree (t, e) = roll-Link (record { op = op_of t.terminal; part = e })
 
 -- a part alone, or one node for a chain with at least one operator
 abbrev pub chain_tree : ChainKind → Expr → List Link → Expr
@@ -169,14 +169,14 @@ unfoldable pub with_block : Expr → Option Block → Expr
 with_block e None = e
 with_block e (Some b) = let node = (out-Expr e).node in plain (node_with_block node (out-Node node) b)
 
-abbrev pub set_of : Word → AssignOp
-set_of words.SetPlus = sets.Add
-set_of words.SetMinus = sets.Sub
-set_of words.SetTimes = sets.Mul
+abbrev pub set_of : Terminal → AssignOp
+set_of terminals.SetPlus = sets.Add
+set_of terminals.SetMinus = sets.Sub
+set_of terminals.SetTimes = sets.Mul
 set_of _ = sets.Set
 
-abbrev pub is_unless : Word → Bool
-is_unless words.Unless = true
+abbrev pub is_unless : Terminal → Bool
+is_unless terminals.Unless = true
 is_unless _ = false
 
 -- a statement, with `if` or `unless` and a condition after it where they are there

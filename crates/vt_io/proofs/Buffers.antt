@@ -5,7 +5,7 @@ use Rattle.std.proofs.Math.Seq.{take-append_seam}
 use Rattle.std.specs.Io.{ReadsAtMost}
 use Rattle.std.proofs.lemmas.List.{drop-append-le, drop-drop, length-drop, length-take-le, take-append-drop}
 
--- the front of a buffer is what was copied there
+-- the prefix of a buffer is what was copied there
 pub take-copied : (source copied rest : List ℕ) (n : ℕ) → copied ≡ take n source → n ≤ length source → take n (copied ++ rest) ≡ take n source
 take-copied source copied rest n c f =
     let long : length copied ≡ n = ap length c ∙ length-take-le n source f in
@@ -23,12 +23,12 @@ left-copied items copied rest at n c f =
 pub left-none_copied : (items : List ℕ) (at n room : ℕ) → n ≡ min room (length items - at) → at ≤ length items → n ≡ 0 → 0 < room → drop (at + n) items ≡ []
 left-none_copied items at n room e within none some = drop_of_length-le items (omega arith)
 
--- where a read into the front of a buffer left alone what lies past its bytes, it left alone what lies past them in the
+-- where a read into the prefix of a buffer left alone what lies past its bytes, it left alone what lies past them in the
 -- whole buffer
-pub beyond_front : {E : Type 0} (buf front : List ℕ) (most : ℕ) (r : Result ℕ E) → length front ≡ length (take most buf) → ReadsAtMost r front → IfOk r (λ n. drop n front ≡ drop n (take most buf)) → IfOk r (λ n. drop n (front ++ drop most buf) ≡ drop n buf)
-beyond_front buf front most (Ok n) l b e =
-    drop-append-le n front (drop most buf) b.0
+pub beyond_prefix : {E : Type 0} (buf prefix : List ℕ) (most : ℕ) (r : Result ℕ E) → length prefix ≡ length (take most buf) → ReadsAtMost r prefix → IfOk r (λ n. drop n prefix ≡ drop n (take most buf)) → IfOk r (λ n. drop n (prefix ++ drop most buf) ≡ drop n buf)
+beyond_prefix buf prefix most (Ok n) l b e =
+    drop-append-le n prefix (drop most buf) b.0
     ∙ ap (λ xs. xs ++ drop most buf) e
     ∙ sym (drop-append-le n (take most buf) (drop most buf) (omega (arith, b.0, l)))
     ∙ ap (λ xs. drop n xs) (take-append-drop most buf)
-beyond_front buf front most (Err e) l b f = tt
+beyond_prefix buf prefix most (Err e) l b f = tt

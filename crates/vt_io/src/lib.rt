@@ -4,8 +4,6 @@
 mod quiet;
 mod reader;
 mod script;
-#[cfg(test)]
-mod tests;
 mod traits;
 mod writer;
 

@@ -1,4 +1,5 @@
-// Any reader of std as a source.
+//! Any reader of std as a source.
+
 ghost use Rattle.std.specs.Prelude.{◌≡◌, drop, IfOk, OnErr, OnOk};
 ghost use Rattle.std.specs.Io.{ReadsAtMost};
 ghost use Rattle.std.specs.Io.KnownBytes.{ReadConsumes};

@@ -1,4 +1,5 @@
-// A source and a sink in memory that fail in the calls that are listed.
+//! A source and a sink in memory that fail in the calls that are listed.
+
 ghost use Rattle.std.specs.Prelude.{◌≡◌, ◌++◌, ◌-◌, ◌^◌, ◌<◌, ◌≤◌, ◌↔◌, ◌⊎◌, IsTrue, List, [], ℕ, Some, Contains, drop, take, length, min, IfOk, IsErr, IsOk, OnErr, OnOk};
 ghost use Rattle.std.specs.Io.{ReadsAtMost, WritesAtMost};
 ghost use Rattle.std.specs.Io.KnownBytes.{ReadConsumes, WriteAppends};
@@ -121,7 +122,7 @@ impl Source for ScriptSource {
 
     /// Reads as many of the bytes left as the piece and `buf` allow. It fails exactly where the call is listed, and
     /// gives nothing then.
-    #[tactic(auto, using(crate::proofs::Buffers::beyond_front))]
+    #[tactic(auto, using(crate::proofs::Buffers::beyond_prefix))]
     fn read(&mut self, buf: &mut [u8]) -> Result<usize, Failed>
         ensures bound { ReadsAtMost result buf.new }
         ensures bytes { ReadConsumes (Some self.old.left) (Some self.new.left) result buf.new }

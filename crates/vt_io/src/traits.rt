@@ -1,4 +1,5 @@
-// What is read from and written to.
+//! What is read from and written to.
+
 ghost use Rattle.std.specs.Prelude.{◌≡◌, ◌<◌, List, ℕ, drop, length, IfOk};
 ghost use Rattle.std.specs.Io.{ReadsAtMost, WritesAtMost};
 ghost use Rattle.std.specs.Io.KnownBytes.{ReadConsumes, WriteAppends};
@@ -20,7 +21,7 @@ pub trait Source {
     /// Its count of faults, which never falls.
     ghost faults: { Self → ℕ };
 
-    /// Reads some of the bytes that are left into the front of `buf`, and answers how many; the rest of `buf` is as
+    /// Reads some of the bytes that are left into the first bytes of `buf`, and answers how many; the rest of `buf` is as
     /// before. None into a buffer that is not empty is the end. It fails only where the count of faults rose in the
     /// call or stands at 2^64 - 1; what is left is then as before, and nothing is said of `buf`.
     fn read(&mut self, buf: &mut [u8]) -> Result<usize, Failed>
@@ -38,7 +39,7 @@ pub trait Sink {
     /// Its count of faults, which never falls.
     ghost faults: { Self → ℕ };
 
-    /// Takes one byte or more from the front of `piece`, and answers how many. It fails only where the count of faults
+    /// Takes one byte or more from the first bytes of `piece`, and answers how many. It fails only where the count of faults
     /// rose in the call or stands at 2^64 - 1, and nothing is taken then.
     fn write(&mut self, piece: &[u8]) -> Result<usize, Failed>
         requires { 0 < length piece.now }

@@ -6,10 +6,10 @@ use Rattle.vt_lex.specs.declared.texts.TextUnit.TheVariants.{Closing, Byte, Bad}
 use Rattle.vt_lex.specs.declared.texts.Measure.{Measure}
 use Rattle.vt_lex.specs.declared.token.TokenKind.TheVariants.{Text}
 use Rattle.vt_lex.specs.declared.fault.LexKind.TheVariants.{Long}
-use Rattle.vt_lex.specs.declared.piece.Sort.TheVariants.{Token}
-use Rattle.vt_lex.specs.Pieces.{piece, text_of}
+use Rattle.vt_lex.specs.declared.lexeme.Sort.TheVariants.{Token}
+use Rattle.vt_lex.specs.Lexemes.{lexeme, text_of}
 use Rattle.vt_lex.specs.Texts.{Body, and_byte, with_unit, unit_of, body_of, value_of, value_of_body, IsTextForm}
-use Rattle.vt_lex.specs.Measures.{measured}
+use Rattle.vt_lex.specs.private.Measures.{measured}
 
 -- the rest begins with these bytes of the value, whose form has so many bytes
 abbrev pub prepend : ℕ → List ℕ → Option Body → Option Body
@@ -94,20 +94,20 @@ measured_end quote bytes at count m over =
     sym (ap measured (m.so_far ∙ ap (λ bs. prepend at m.values (body_of quote bs)) (drop_all at bytes over)))
 
 -- a text of these lengths
-pub text_within : (o : Option Body) (m : Measure) → Some m ≡ measured o → m.count ≤ 4096 → text_of o ≡ piece (Token Text) (1 + m.len)
+pub text_within : (o : Option Body) (m : Measure) → Some m ≡ measured o → m.count ≤ 4096 → text_of o ≡ lexeme (Token Text) (1 + m.len)
 text_within None m e h = absurd (let z : Some m ≡ None = e in cc)
 text_within (Some body) m e h =
     let same : m ≡ record { len = body.len; count = length body.value } = cc in
     let few : length body.value ≤ 4096 = subst (λ (x : Measure). x.count ≤ 4096) same h in
-    ap (λ b. cond b (piece (Token Text) (1 + body.len)) (Err Long)) (le-leb (length body.value) 4096 few)
-    ∙ ap (λ (x : Measure). piece (Token Text) (1 + x.len)) (sym same)
+    ap (λ b. cond b (lexeme (Token Text) (1 + body.len)) (Err Long)) (le-leb (length body.value) 4096 few)
+    ∙ ap (λ (x : Measure). lexeme (Token Text) (1 + x.len)) (sym same)
 
 pub text_beyond : (o : Option Body) (m : Measure) → Some m ≡ measured o → 4096 < m.count → text_of o ≡ Err Long
 text_beyond None m e h = absurd (let z : Some m ≡ None = e in cc)
 text_beyond (Some body) m e h =
     let same : m ≡ record { len = body.len; count = length body.value } = cc in
     let many : 4096 < length body.value = subst (λ (x : Measure). 4096 < x.count) same h in
-    ap (λ b. cond b (piece (Token Text) (1 + body.len)) (Err Long)) (lt-leb (length body.value) 4096 many)
+    ap (λ b. cond b (lexeme (Token Text) (1 + body.len)) (Err Long)) (lt-leb (length body.value) 4096 many)
 
 -- what is read of a form of a text, behind its opening quote up to a place, is these bytes of its value
 pub record Values (form : List ℕ) (quote at : ℕ) (values : List ℕ) : Type 0 where

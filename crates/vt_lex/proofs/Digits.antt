@@ -25,34 +25,34 @@ digit_at [] i all h = absurd (omega arith)
 digit_at (d ∷ ds) zero all h = all.0
 digit_at (d ∷ ds) (suc i) all h = digit_at ds i all.1 (omega arith)
 
-pub digits_front : (ds : List ℕ) (i : ℕ) → AllDigits 10 ds → AllDigits 10 (take i ds)
-digits_front [] zero all = tt
-digits_front [] (suc i) all = tt
-digits_front (d ∷ ds) zero all = tt
-digits_front (d ∷ ds) (suc i) all = (all.0, digits_front ds i all.1)
+pub digits_prefix : (ds : List ℕ) (i : ℕ) → AllDigits 10 ds → AllDigits 10 (take i ds)
+digits_prefix [] zero all = tt
+digits_prefix [] (suc i) all = tt
+digits_prefix (d ∷ ds) zero all = tt
+digits_prefix (d ∷ ds) (suc i) all = (all.0, digits_prefix ds i all.1)
 
 -- a digit is its byte less that of `0`
 pub digit_is : (c : ℕ) → c < 256 → digit_value c < 10 → (48 ≤ c) × (digit_value c ≡ c - 48)
 digit_is c h small = (grind (arith, nat_tests), grind (arith, nat_tests))
 
--- the value of a front of at most 18 digits
-pub front_small : (ds : List ℕ) (i : ℕ) → AllDigits 10 ds → i < length ds → length ds ≤ 19 → digits_value 10 (take i ds) < 1000000000000000000
-front_small ds i all h few =
+-- the value of a prefix of at most 18 digits
+pub prefix_small : (ds : List ℕ) (i : ℕ) → AllDigits 10 ds → i < length ds → length ds ≤ 19 → digits_value 10 (take i ds) < 1000000000000000000
+prefix_small ds i all h few =
     let short : length (take i ds) ≤ 18 = omega (arith, length-take i ds) in
-    let below = digits_value-lt 10 (take i ds) (digits_front ds i all) in
+    let below = digits_value-lt 10 (take i ds) (digits_prefix ds i all) in
     let most : 10 ^ length (take i ds) ≤ 10 ^ 18 = pow-le-pow_right {n = 10} (lit< tt) {i = length (take i ds)} {j = 18} short in
     omega arith
 
 pub byte_below : (ds : List ℕ) (i : ℕ) → get_or ds i 0 < 256 → get_or ds i 0 < 256
 byte_below ds i h = h
 
--- the value of a front of a list of at most 19 digits, and the digit after it
+-- the value of a prefix of a list of at most 19 digits, and the digit after it
 module _ (ds : List ℕ) (i : ℕ) (all : AllDigits 10 ds) (more : i < length ds) where
   pub digit_byte : get_or ds i 0 < 256 → (48 ≤ get_or ds i 0) × (digit_value (get_or ds i 0) ≡ get_or ds i 0 - 48)
   digit_byte h = digit_is (get_or ds i 0) h (digit_at ds i all more)
 
   pub value_small : (value : ℕ) → value ≡ digits_value 10 (take i ds) → length ds ≤ 19 → value < 1000000000000000000
-  value_small value e few = rw e (front_small ds i all more few)
+  value_small value e few = rw e (prefix_small ds i all more few)
 
   pub value_more : (value : ℕ) → value ≡ digits_value 10 (take i ds) → get_or ds i 0 < 256 → value * 10 + (get_or ds i 0 - 48) ≡ digits_value 10 (take (i + 1) ds)
   value_more value e h =

@@ -10,3 +10,10 @@ pub mod Newlines
 pub mod Shapes
 pub mod Placing
 pub mod Skipping
+pub mod Branches
+pub mod Reaches
+pub mod Units
+pub mod Reasons
+pub mod Unfit
+pub mod Taken
+pub mod NameForms

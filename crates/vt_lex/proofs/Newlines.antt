@@ -8,10 +8,11 @@ use lib.Pointwise.{bytes_decides}
 use Rattle.std.proofs.lemmas.Bool.{eqb-true, ne_eqb, and_parts, or_cases, false≢true}
 use Rattle.std.proofs.lemmas.List.{take_all}
 use Rattle.std.proofs.lemmas.List.Sums.{sum_by-cons, sum_by-append}
+use Rattle.vt_frac.specs.Names.{is_among, keywords, reserved}
 use Rattle.vt_lex.specs.declared.texts.TextUnit.{TextUnit}
 use Rattle.vt_lex.specs.declared.texts.TextUnit.TheVariants.{Closing, Byte, Bad}
 use Rattle.vt_lex.specs.Texts.{Body, body_of, with_unit, and_byte, unit_of, escape_unit, escaped, IsTextForm}
-use Rattle.vt_lex.specs.Words.{is_among, keywords, reserved, operators}
+use Rattle.vt_lex.specs.Words.{operators}
 use Rattle.vt_lex.specs.Places.{newlines}
 use Rattle.vt_lex.proofs.Bounds.{unit_cases, IsOneOrTwo}
 

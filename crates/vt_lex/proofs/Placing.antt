@@ -6,21 +6,23 @@ use Rattle.std.specs.Char.{is_ascii_digit}
 use Rattle.std.proofs.lemmas.Bool.{cases_lt, lt-ltb, le-ltb, ne_eqb, and_parts}
 use Rattle.std.proofs.lemmas.List.{get_or-take, get_or-drop, get_or_default, get_or_past, drop-drop}
 use Rattle.std.proofs.lemmas.List.Elements.{All-append, All-nil, All-cons, All-weaker}
+use Rattle.vt_frac.specs.Names.{is_name_byte}
 use Rattle.vt_lex.specs.declared.token.Token.{Token as Word}
 use Rattle.vt_lex.specs.declared.token.TokenKind.{TokenKind}
 use Rattle.vt_lex.specs.declared.token.TokenKind.TheVariants.{Newline, Name, Label, Keyword, Reserved, Symbol, Whole, Decimal, Text, Operator}
-use Rattle.vt_lex.specs.declared.piece.Sort.{Sort}
-use Rattle.vt_lex.specs.declared.piece.Sort.TheVariants.{Blank, Comment, Line, Token}
-use Rattle.vt_lex.specs.declared.piece.Piece.{Piece}
-use Rattle.vt_lex.specs.Bytes.{is_blank, is_name_byte, is_space}
-use Rattle.vt_lex.specs.Pieces.{piece_by, piece_of}
+use Rattle.vt_lex.specs.declared.lexeme.Sort.{Sort}
+use Rattle.vt_lex.specs.declared.lexeme.Sort.TheVariants.{Blank, Comment, Line, Token}
+use Rattle.vt_lex.specs.declared.lexeme.Lexeme.{Lexeme}
+use Rattle.vt_lex.specs.Bytes.{is_blank, is_space}
+use Rattle.vt_lex.specs.Lexemes.{lexeme_by, lexeme_of}
 use Rattle.vt_lex.specs.Lexing.{Standing, opening, kept_kind, token_of, tokens_of, kept, line_after, after, AreTokens, Lexes}
 use Rattle.vt_lex.specs.Places.{newlines, is_gap, is_tight, StandsAt, AreInOrder}
-use Rattle.vt_lex.proofs.Bounds.{piece_bounded}
+use Rattle.vt_lex.proofs.Bounds.{lexeme_bounded}
+use Rattle.vt_lex.proofs.NameForms.{label_parts, symbol_parts}
 use Rattle.vt_lex.proofs.Newlines.{none_passed, no_newline, newlines_append, no_newlines, digits_alone, keyword_alone, reserved_alone, operator_alone, text_alone}
-use Rattle.vt_lex.proofs.Shapes.{IsPieceForm, piece_formed, piece_there, take_sum}
+use Rattle.vt_lex.proofs.Shapes.{IsLexemeForm, lexeme_formed, lexeme_there, take_sum}
 
--- the newlines in a piece of this sort
+-- the newlines in a lexeme of this sort
 abbrev pub newlines_in : Sort → ℕ
 newlines_in Line = 1
 newlines_in Blank = 0
@@ -36,31 +38,31 @@ line_sum line (Token kind) = sym (add-zero line)
 both_none : (xs ys : List ℕ) → newlines xs ≡ 0 → newlines ys ≡ 0 → newlines (xs ++ ys) ≡ 0
 both_none xs ys e f = let sum = newlines_append xs ys in omega arith
 
--- a piece that begins with a newline is that newline
-pub newline_first : (bytes : List ℕ) (p : Piece) → piece_of bytes ≡ Ok p → slice_index bytes 0 ≡ 10 → p.sort ≡ Line
-unfolding piece_by
+-- a lexeme that begins with a newline is that newline
+pub newline_first : (bytes : List ℕ) (p : Lexeme) → lexeme_of bytes ≡ Ok p → slice_index bytes 0 ≡ 10 → p.sort ≡ Line
+unfolding lexeme_by
 newline_first bytes p e first =
-    let z : Ok (record { sort = Line; len = 1 }) ≡ Ok p = sym (ap (λ (b : ℕ). piece_by b bytes) first) ∙ e in
+    let z : Ok (record { sort = Line; len = 1 }) ≡ Ok p = sym (ap (λ (b : ℕ). lexeme_by b bytes) first) ∙ e in
     let same : record { sort = Line; len = 1 } ≡ p = cc in
-    sym (ap (λ (x : Piece). x.sort) same)
+    sym (ap (λ (x : Lexeme). x.sort) same)
 
-semicolon : (bytes : List ℕ) (p : Piece) → 0 < p.len → piece_of bytes ≡ Ok p → p.sort ≡ Token Newline → (take p.len bytes ≡ 10 ∷ []) ⊎ (take p.len bytes ≡ 59 ∷ []) → newlines (take p.len bytes) ≡ 0
+semicolon : (bytes : List ℕ) (p : Lexeme) → 0 < p.len → lexeme_of bytes ≡ Ok p → p.sort ≡ Token Newline → (take p.len bytes ≡ 10 ∷ []) ⊎ (take p.len bytes ≡ 59 ∷ []) → newlines (take p.len bytes) ≡ 0
 semicolon bytes p some e sort (inl h) =
     let first : slice_index bytes 0 ≡ 10 = sym (get_or-take p.len bytes 0 0 some) ∙ ap (λ (xs : List ℕ). slice_index xs 0) h in
     absurd (let z : Token Newline ≡ Line = sym sort ∙ newline_first bytes p e first in cc)
 semicolon bytes p some e sort (inr h) = ap newlines h
 
--- a piece that is no line has no newline, and a line has one
-pub newlines_of : (bytes : List ℕ) (p : Piece) → 0 < p.len → piece_of bytes ≡ Ok p → (sort : Sort) → p.sort ≡ sort → IsPieceForm sort (take p.len bytes) → newlines (take p.len bytes) ≡ newlines_in sort
+-- a lexeme that is no line has no newline, and a line has one
+pub newlines_of : (bytes : List ℕ) (p : Lexeme) → 0 < p.len → lexeme_of bytes ≡ Ok p → (sort : Sort) → p.sort ≡ sort → IsLexemeForm sort (take p.len bytes) → newlines (take p.len bytes) ≡ newlines_in sort
 newlines_of bytes p some e Blank sort form = ap newlines form.alone ∙ none_passed form.byte [] (no_newline is_blank refl form.byte form.blank) refl
 newlines_of bytes p some e Comment sort form = ap newlines form.hash ∙ none_passed 35 form.line refl (no_newlines (λ b. not (eqb b 10)) refl form.line form.on_line)
 newlines_of bytes p some e Line sort form = ap newlines form
 newlines_of bytes p some e (Token Newline) sort form = semicolon bytes p some e sort form
-newlines_of bytes p some e (Token Name) sort form = no_newlines is_name_byte refl (take p.len bytes) form.word.all
-newlines_of bytes p some e (Token Label) sort form = ap newlines form.colon ∙ both_none form.name (58 ∷ []) (no_newlines is_name_byte refl form.name form.word.all) refl
+newlines_of bytes p some e (Token Name) sort form = no_newlines is_name_byte refl (take p.len bytes) (label_parts (take p.len bytes) form.form).all
+newlines_of bytes p some e (Token Label) sort form = ap newlines form.colon ∙ both_none form.name (58 ∷ []) (no_newlines is_name_byte refl form.name (label_parts form.name form.form).all) refl
 newlines_of bytes p some e (Token Keyword) sort form = keyword_alone (take p.len bytes) form
 newlines_of bytes p some e (Token Reserved) sort form = reserved_alone (take p.len bytes) form
-newlines_of bytes p some e (Token Symbol) sort form = ap newlines form.colon ∙ none_passed 58 form.name refl (no_newlines is_name_byte refl form.name form.all)
+newlines_of bytes p some e (Token Symbol) sort form = ap newlines form.colon ∙ none_passed 58 form.name refl (no_newlines is_name_byte refl form.name (symbol_parts form.name form.form).all)
 newlines_of bytes p some e (Token Whole) sort form = digits_alone (take p.len bytes) form.digits
 newlines_of bytes p some e (Token Decimal) sort form =
     ap newlines form.pointed.joined
@@ -71,11 +73,11 @@ newlines_of bytes p some e (Token Text) sort form = text_alone (take p.len bytes
 newlines_of bytes p some e (Token Operator) sort form = operator_alone (take p.len bytes) form
 
 -- the line and the byte before are those of the text
-record Placed (text : List ℕ) (first_line : ℕ) (s : Standing) : Type 0 where
-  line : s.line ≡ first_line + newlines (take s.at text)
-  before : is_space s.before ≡ is_gap text s.at
+pub record Placed (text : List ℕ) (first_line : ℕ) (s : Standing) : Type 0 where
+  pub line : s.line ≡ first_line + newlines (take s.at text)
+  pub before : is_space s.before ≡ is_gap text s.at
 
-placed_after : (text : List ℕ) (first_line : ℕ) (s : Standing) (bytes : List ℕ) (p : Piece) → bytes ≡ drop s.at text → 0 < p.len → newlines (take p.len bytes) ≡ newlines_in p.sort → Placed text first_line s → Placed text first_line (after s p bytes)
+pub placed_after : (text : List ℕ) (first_line : ℕ) (s : Standing) (bytes : List ℕ) (p : Lexeme) → bytes ≡ drop s.at text → 0 < p.len → newlines (take p.len bytes) ≡ newlines_in p.sort → Placed text first_line s → Placed text first_line (after s p bytes)
 placed_after text first_line s bytes p left some lines placed =
     let here : newlines (take p.len bytes) ≡ newlines (take p.len (drop s.at text)) = ap (λ (xs : List ℕ). newlines (take p.len xs)) left in
     let sum : newlines (take (s.at + p.len) text) ≡ newlines (take s.at text) + newlines (take p.len (drop s.at text)) =
@@ -107,15 +109,15 @@ tokens_stand text first_line s bytes len (Some kind) left some within placed =
     (record { some = omega arith; within = within; line = placed.line; gap = placed.before; tight = ap (λ (b : ℕ). not (is_space b)) byte ∙ tight_at text (s.at + len) })
     (All-nil (StandsAt text first_line))
 
-all_stand : (text : List ℕ) (first_line : ℕ) (s : Standing) (bytes : List ℕ) (ps : List Piece) (ts : List Word) → bytes ≡ drop s.at text → Placed text first_line s → AreTokens s bytes ps ts → All (StandsAt text first_line) ts
+all_stand : (text : List ℕ) (first_line : ℕ) (s : Standing) (bytes : List ℕ) (ps : List Lexeme) (ts : List Word) → bytes ≡ drop s.at text → Placed text first_line s → AreTokens s bytes ps ts → All (StandsAt text first_line) ts
 all_stand text first_line s bytes [] ts left placed h = subst (All (StandsAt text first_line)) (sym h.1) (All-nil (StandsAt text first_line))
 all_stand text first_line s bytes (p ∷ ps) ts left placed h =
-    let some : 0 < length bytes = piece_there bytes p h.0 in
+    let some : 0 < length bytes = lexeme_there bytes p h.0 in
     let size : length bytes ≡ length text - s.at = ap length left ∙ length-drop s.at text in
-    let bounds = piece_bounded bytes p some h.0 in
+    let bounds = lexeme_bounded bytes p some h.0 in
     let least = bounds.0 in
     let most = bounds.1 in
-    let lines = newlines_of bytes p least h.0 p.sort refl (piece_formed bytes p some h.0) in
+    let lines = newlines_of bytes p least h.0 p.sort refl (lexeme_formed bytes p some h.0) in
     let here : All (StandsAt text first_line) (kept s p bytes) = tokens_stand text first_line s bytes p.len (kept_kind s p.sort) left least (omega arith) placed in
     let rest : All (StandsAt text first_line) h.1.0 =
     all_stand text first_line (after s p bytes) (drop p.len bytes) ps h.1.0 (ap (drop p.len) left ∙ drop-drop p.len s.at text) (placed_after text first_line s bytes p left least lines placed) h.1.2 in
@@ -123,7 +125,7 @@ all_stand text first_line s bytes (p ∷ ps) ts left placed h =
 
 pub tokens_stand_at : (text : List ℕ) (first_line : ℕ) (ts : List Word) → Lexes text first_line ts → All (StandsAt text first_line) ts
 tokens_stand_at text first_line ts h =
-    all_stand text first_line (opening first_line) text h.pieces ts refl (record { line = sym (add-zero first_line); before = refl }) h.are_tokens
+    all_stand text first_line (opening first_line) text h.lexemes ts refl (record { line = sym (add-zero first_line); before = refl }) h.are_tokens
 
 -- no token begins before this place, and each ends before a later one begins
 pub record Follow (at : ℕ) (ts : List Word) : Type 0 where
@@ -142,10 +144,10 @@ follow_kept s bytes len (Some kind) rest f = record {
   order = (f.begin, f.order);
 }
 
-pub all_follow : (s : Standing) (bytes : List ℕ) (ps : List Piece) (ts : List Word) → AreTokens s bytes ps ts → Follow s.at ts
+pub all_follow : (s : Standing) (bytes : List ℕ) (ps : List Lexeme) (ts : List Word) → AreTokens s bytes ps ts → Follow s.at ts
 all_follow s bytes [] ts h = subst (Follow s.at) (sym h.1) (record { begin = All-nil (λ (t : Word). s.at ≤ t.from); order = tt })
 all_follow s bytes (p ∷ ps) ts h =
     subst (Follow s.at) (sym h.1.1) (follow_kept s bytes p.len (kept_kind s p.sort) h.1.0 (all_follow (after s p bytes) (drop p.len bytes) ps h.1.0 h.1.2))
 
 pub tokens_in_order : (text : List ℕ) (first_line : ℕ) (ts : List Word) → Lexes text first_line ts → AreInOrder ts
-tokens_in_order text first_line ts h = (all_follow (opening first_line) text h.pieces ts h.are_tokens).order
+tokens_in_order text first_line ts h = (all_follow (opening first_line) text h.lexemes ts h.are_tokens).order

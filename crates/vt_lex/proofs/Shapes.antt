@@ -1,4 +1,4 @@
--- The bytes of a piece have the form of its sort.
+-- The bytes of a lexeme have the form of its sort.
 use Rattle.std.proofs.Common.{◌≡◌, ℕ, suc, ◌+◌, ◌-◌, ◌<◌, ◌≤◌, Bool, true, false, not, ◌&&◌, ◌||◌, ◌⊎◌, nat_le, nat_lt, List, [], ◌∷◌, ◌++◌, length, take, drop, get_or, slice_index, Option, Some, None, Result, Ok, Err, cond, eqb, refl, sym, ap, ◌∙◌, subst, inl, inr, ⊎_elim, arith, lit<, length-drop, one-add, add-one, add-zero, append_assoc}
 use Rattle.std.specs.Prelude.{nat_eq, slice_range, is_ok, IsTrue}
 use lib.Pointwise.{bytes_decides}
@@ -15,25 +15,27 @@ use Rattle.vt_frac.specs.declared.fault.DecimalFault.{DecimalFault}
 use Rattle.vt_frac.specs.Fraction.{Fraction}
 use Rattle.vt_frac.specs.Decimal.{IsPointed, are_digits}
 use Rattle.vt_frac.proofs.DecimalForms.{decimal-form}
+use Rattle.vt_frac.specs.Names.{begins_name, begins_symbol, is_name_byte, is_label_name, is_among, keywords, reserved}
 use Rattle.vt_lex.specs.declared.token.Token.{Token as Word}
 use Rattle.vt_lex.specs.declared.token.TokenKind.{TokenKind}
 use Rattle.vt_lex.specs.declared.token.TokenKind.TheVariants.{Newline, Name, Label, Keyword, Reserved, Symbol, Whole, Decimal, Text, Operator}
 use Rattle.vt_lex.specs.declared.fault.LexKind.{LexKind}
 use Rattle.vt_lex.specs.declared.fault.LexKind.TheVariants.{Byte as NoToken, Text as BadText, Number, Long}
-use Rattle.vt_lex.specs.declared.piece.Sort.{Sort}
-use Rattle.vt_lex.specs.declared.piece.Sort.TheVariants.{Blank, Comment, Line, Token}
-use Rattle.vt_lex.specs.declared.piece.Piece.{Piece}
+use Rattle.vt_lex.specs.declared.lexeme.Sort.{Sort}
+use Rattle.vt_lex.specs.declared.lexeme.Sort.TheVariants.{Blank, Comment, Line, Token}
+use Rattle.vt_lex.specs.declared.lexeme.Lexeme.{Lexeme}
 use Rattle.vt_lex.specs.declared.texts.TextUnit.{TextUnit}
 use Rattle.vt_lex.specs.declared.texts.TextUnit.TheVariants.{Closing, Byte, Bad}
-use Rattle.vt_lex.specs.Bytes.{is_blank, begins_name, begins_symbol, is_name_byte}
-use Rattle.vt_lex.specs.Words.{is_among, first_start, keywords, reserved, operators}
+use Rattle.vt_lex.specs.Bytes.{is_blank}
+use Rattle.vt_lex.specs.Words.{first_start, operators}
 use Rattle.vt_lex.specs.Numbers.{whole_fits, decimal_fits}
 use Rattle.vt_lex.specs.Texts.{Body, body_of, with_unit, and_byte, unit_of, escape_unit, escaped, IsTextForm}
-use Rattle.vt_lex.specs.Pieces.{piece, named, ends_label, word_piece, symbol_piece, whole_of, decimal_of, number_piece, text_of, text_piece, operator_of, operator_piece, comment_piece, piece_by, piece_of}
-use Rattle.vt_lex.specs.Forms.{IsWord, IsLabelForm, IsSymbolForm, IsFormOf, HasForm}
+use Rattle.vt_lex.specs.Lexemes.{lexeme, name_limit, named, ends_label, word_lexeme, symbol_lexeme, whole_of, decimal_of, number_lexeme, text_of, text_lexeme, operator_of, operator_lexeme, comment_lexeme, lexeme_by, lexeme_of}
+use Rattle.vt_lex.specs.Forms.{IsLabelForm, IsSymbolForm, IsFormOf, HasForm}
 use Rattle.vt_lex.specs.Lexing.{Standing, opening, is_dropped, kept_kind, token_of, tokens_of, kept, after, AreTokens, Lexes}
-use Rattle.vt_lex.proofs.Bounds.{unit_cases, IsOneOrTwo, prefix_some, begins_in, inside, body_inside, piece_bounded, no_piece}
+use Rattle.vt_lex.proofs.Bounds.{unit_cases, IsOneOrTwo, prefix_some, begins_in, inside, body_inside, lexeme_bounded, no_lexeme}
 use Rattle.vt_lex.proofs.Digits.{all_digits}
+use Rattle.vt_lex.proofs.NameForms.{label_made, symbol_made}
 
 pub record IsBlankForm (bytes : List ℕ) : Type 0 where
   pub byte : ℕ
@@ -45,30 +47,31 @@ pub record IsCommentForm (bytes : List ℕ) : Type 0 where
   pub hash : bytes ≡ 35 ∷ line
   pub on_line : list_all (λ b. not (eqb b 10)) line ≡ true
 
--- what the bytes of a piece are
-abbrev pub IsPieceForm : Sort → List ℕ → Type 0
-IsPieceForm Blank bytes = IsBlankForm bytes
-IsPieceForm Comment bytes = IsCommentForm bytes
-IsPieceForm Line bytes = bytes ≡ 10 ∷ []
-IsPieceForm (Token kind) bytes = IsFormOf kind bytes
+-- what the bytes of a lexeme are
+abbrev pub IsLexemeForm : Sort → List ℕ → Type 0
+IsLexemeForm Blank bytes = IsBlankForm bytes
+IsLexemeForm Comment bytes = IsCommentForm bytes
+IsLexemeForm Line bytes = bytes ≡ 10 ∷ []
+IsLexemeForm (Token kind) bytes = IsFormOf kind bytes
 
-pub record Formed (bytes : List ℕ) (r : Result Piece LexKind) : Type 0 where
-  pub formed : (p : Piece) → r ≡ Ok p → IsPieceForm p.sort (take p.len bytes)
+pub record Formed (bytes : List ℕ) (r : Result Lexeme LexKind) : Type 0 where
+  pub formed : (p : Lexeme) → r ≡ Ok p → IsLexemeForm p.sort (take p.len bytes)
 
-formed_piece : (bytes : List ℕ) (sort : Sort) (len : ℕ) → IsPieceForm sort (take len bytes) → Formed bytes (piece sort len)
-formed_piece bytes sort len form = record {
-  formed = λ p e. let same : record { sort = sort; len = len } ≡ p = cc in subst (λ (x : Piece). IsPieceForm x.sort (take x.len bytes)) same form;
+formed_lexeme : (bytes : List ℕ) (sort : Sort) (len : ℕ) → IsLexemeForm sort (take len bytes) → Formed bytes (lexeme sort len)
+formed_lexeme bytes sort len form = record {
+  formed = λ p e. let same : record { sort = sort; len = len } ≡ p = cc in subst (λ (x : Lexeme). IsLexemeForm x.sort (take x.len bytes)) same form;
 }
 
 formed_fault : (bytes : List ℕ) (kind : LexKind) → Formed bytes (Err kind)
 formed_fault bytes kind = record { formed = λ p e. absurd (let z : Err kind ≡ Ok p = e in cc) }
 
-choice : (bytes : List ℕ) (b : Bool) (x y : Result Piece LexKind) → (b ≡ true → Formed bytes x) → (b ≡ false → Formed bytes y) → Formed bytes (cond b x y)
+choice : (bytes : List ℕ) (b : Bool) (x y : Result Lexeme LexKind) → (b ≡ true → Formed bytes x) → (b ≡ false → Formed bytes y) → Formed bytes (cond b x y)
 choice bytes b x y f g = cond_both b x y (Formed bytes) f g
 
 formed_named : (bytes : List ℕ) (kind : TokenKind) (n len : ℕ) → (n ≤ 64 → IsFormOf kind (take len bytes)) → Formed bytes (named kind n len)
 formed_named bytes kind n len form =
-    choice bytes (nat_le n 64) (piece (Token kind) len) (Err Long) (λ e. formed_piece bytes (Token kind) len (form (leb-true n 64 e))) (λ _. formed_fault bytes Long)
+    choice bytes (nat_le n name_limit) (lexeme (Token kind) len) (Err Long)
+    (λ e. formed_lexeme bytes (Token kind) len (let short : n ≤ name_limit = leb-true n name_limit e in form (omega arith))) (λ _. formed_fault bytes Long)
 
 some_symbol : (bs : List ℕ) → begins_symbol (slice_index bs 0) ≡ true → 0 < length bs
 some_symbol [] e = absurd (false≢true e)
@@ -77,58 +80,59 @@ some_symbol (b ∷ bs) e = omega arith
 symbol_in : (b : ℕ) → begins_symbol b ≡ true → is_name_byte b ≡ true
 symbol_in b e = grind (arith, nat_tests)
 
-pub piece_there : (bytes : List ℕ) (p : Piece) → piece_of bytes ≡ Ok p → 0 < length bytes
-piece_there [] p e = absurd (no_piece p e)
-piece_there (b ∷ bs) p e = omega arith
+pub lexeme_there : (bytes : List ℕ) (p : Lexeme) → lexeme_of bytes ≡ Ok p → 0 < length bytes
+lexeme_there [] p e = absurd (no_lexeme p e)
+lexeme_there (b ∷ bs) p e = omega arith
 
--- a front that passes a test
-all_pass : (p : ℕ → Bool) (bytes : List ℕ) → list_all p (take_while p bytes) ≡ true
+-- a prefix that passes a test
+pub all_pass : (p : ℕ → Bool) (bytes : List ℕ) → list_all p (take_while p bytes) ≡ true
 all_pass p [] = refl
 all_pass p (b ∷ bs) =
     rw (take_while-cons p b bs)
     (cond_both (p b) (b ∷ take_while p bs) [] (λ (xs : List ℕ). list_all p xs ≡ true) (λ e. rw e (all_pass p bs)) (λ _. refl))
 
-word_form : (bytes : List ℕ) → 0 < length bytes → begins_name (slice_index bytes 0) ≡ true → IsWord (take (prefix_len is_name_byte bytes) bytes)
-word_form bytes some begins =
-    let least : 0 < prefix_len is_name_byte bytes = prefix_some is_name_byte bytes some (begins_in (slice_index bytes 0) begins) in
-    record {
-      begins = ap begins_name (get_or-take (prefix_len is_name_byte bytes) bytes 0 0 least) ∙ begins;
-      all = all_pass is_name_byte bytes;
-    }
-
-word_length : (bytes : List ℕ) (p : ℕ → Bool) → length (take (prefix_len p bytes) bytes) ≡ prefix_len p bytes
+pub word_length : (bytes : List ℕ) (p : ℕ → Bool) → length (take (prefix_len p bytes) bytes) ≡ prefix_len p bytes
 word_length bytes p = length-take-le (prefix_len p bytes) bytes (prefix_len-le-length p bytes)
 
-label_form : (n : ℕ) (bytes : List ℕ) → IsWord (take n bytes) → length (take n bytes) ≡ n → ends_label (drop n bytes) ≡ true → n ≤ 64 → IsLabelForm (take (n + 1) bytes)
-label_form n bytes word size e short =
+-- the longest word begins as the bytes do
+pub word_first : (bytes : List ℕ) → 0 < length bytes → begins_name (slice_index bytes 0) ≡ true → begins_name (slice_index (take (prefix_len is_name_byte bytes) bytes) 0) ≡ true
+word_first bytes some begins =
+    let least : 0 < prefix_len is_name_byte bytes = prefix_some is_name_byte bytes some (begins_in (slice_index bytes 0) begins) in
+    ap begins_name (get_or-take (prefix_len is_name_byte bytes) bytes 0 0 least) ∙ begins
+
+-- the longest word, where it is short
+word_form : (bytes : List ℕ) → 0 < length bytes → begins_name (slice_index bytes 0) ≡ true → prefix_len is_name_byte bytes ≤ 64 → IsTrue (is_label_name (take (prefix_len is_name_byte bytes) bytes))
+word_form bytes some begins short =
+    let size = word_length bytes is_name_byte in
+    label_made (take (prefix_len is_name_byte bytes) bytes) (record { begins = word_first bytes some begins; all = all_pass is_name_byte bytes; short = omega arith })
+
+label_form : (n : ℕ) (bytes : List ℕ) → IsTrue (is_label_name (take n bytes)) → ends_label (drop n bytes) ≡ true → IsLabelForm (take (n + 1) bytes)
+label_form n bytes word e =
     let colon : get_or bytes n 0 ≡ 58 =
     sym (ap (λ k. get_or bytes k 0) (add-zero n)) ∙ (sym (get_or-drop n bytes 0 0)
     ∙ eqb-true (get_or (drop n bytes) 0 0) 58 (and_parts (eqb (get_or (drop n bytes) 0 0) 58) (not (eqb (get_or (drop n bytes) 1 0) 58)) e).0) in
     let there : n < length bytes = inside bytes n 58 (lit< tt) colon in
     record {
       name = take n bytes;
-      word = word;
-      short = omega (arith, size);
+      form = word;
       colon = take_more bytes n 0 there ∙ ap (λ (b : ℕ). take n bytes ++ b ∷ []) colon;
     }
 
-word_formed : (bytes : List ℕ) → 0 < length bytes → begins_name (slice_index bytes 0) ≡ true → Formed bytes (word_piece bytes)
-unfolding word_piece
+word_formed : (bytes : List ℕ) → 0 < length bytes → begins_name (slice_index bytes 0) ≡ true → Formed bytes (word_lexeme bytes)
+unfolding word_lexeme
 word_formed bytes some begins =
     let n = prefix_len is_name_byte bytes in
-    let word : IsWord (take n bytes) = word_form bytes some begins in
-    let size : length (take n bytes) ≡ n = word_length bytes is_name_byte in
-    let name : Result Piece LexKind = named Name n n in
-    let other : Result Piece LexKind = cond (is_among reserved (take n bytes)) (piece (Token Reserved) n) name in
-    choice bytes (ends_label (drop n bytes)) (named Label n (n + 1)) (cond (is_among keywords (take n bytes)) (piece (Token Keyword) n) other)
-    (λ e. formed_named bytes Label n (n + 1) (label_form n bytes word size e))
-    (λ _. choice bytes (is_among keywords (take n bytes)) (piece (Token Keyword) n) other (λ e. formed_piece bytes (Token Keyword) n e)
-    (λ no_keyword. choice bytes (is_among reserved (take n bytes)) (piece (Token Reserved) n) name (λ e. formed_piece bytes (Token Reserved) n e)
+    let name : Result Lexeme LexKind = named Name n n in
+    let other : Result Lexeme LexKind = cond (is_among reserved (take n bytes)) (lexeme (Token Reserved) n) name in
+    choice bytes (ends_label (drop n bytes)) (named Label n (n + 1)) (cond (is_among keywords (take n bytes)) (lexeme (Token Keyword) n) other)
+    (λ e. formed_named bytes Label n (n + 1) (λ short. label_form n bytes (word_form bytes some begins short) e))
+    (λ _. choice bytes (is_among keywords (take n bytes)) (lexeme (Token Keyword) n) other (λ e. formed_lexeme bytes (Token Keyword) n e)
+    (λ no_keyword. choice bytes (is_among reserved (take n bytes)) (lexeme (Token Reserved) n) name (λ e. formed_lexeme bytes (Token Reserved) n e)
     (λ not_reserved. formed_named bytes Name n n
-    (λ short. record { word = word; short = omega (arith, size); no_keyword = no_keyword; not_reserved = not_reserved }))))
+    (λ short. record { form = word_form bytes some begins short; no_keyword = no_keyword; not_reserved = not_reserved }))))
 
-symbol_formed : (bytes : List ℕ) → slice_index bytes 0 ≡ 58 → Formed bytes (symbol_piece bytes)
-unfolding symbol_piece
+symbol_formed : (bytes : List ℕ) → slice_index bytes 0 ≡ 58 → Formed bytes (symbol_lexeme bytes)
+unfolding symbol_lexeme
 symbol_formed [] colon = absurd (omega (arith, colon))
 symbol_formed (b ∷ bs) colon =
     let bytes = b ∷ bs in
@@ -142,9 +146,13 @@ symbol_formed (b ∷ bs) colon =
           let least : 0 < prefix_len is_name_byte bs = prefix_some is_name_byte bs there (symbol_in (slice_index bs 0) e) in
           record {
             name = take (prefix_len is_name_byte bs) bs;
-            begins = ap begins_symbol (get_or-take (prefix_len is_name_byte bs) bs 0 0 least) ∙ e;
-            all = all_pass is_name_byte bs;
-            short = omega (arith, word_length bs is_name_byte);
+            form =
+                symbol_made (take (prefix_len is_name_byte bs) bs)
+                (record {
+                  begins = ap begins_symbol (get_or-take (prefix_len is_name_byte bs) bs 0 0 least) ∙ e;
+                  all = all_pass is_name_byte bs;
+                  short = omega (arith, word_length bs is_name_byte);
+                });
             colon = ap (λ (k : ℕ). take k (b ∷ bs)) (add-one (prefix_len is_name_byte bs)) ∙ ap (λ (x : ℕ). x ∷ take (prefix_len is_name_byte bs) bs) colon;
           }
 
@@ -152,11 +160,11 @@ whole_formed : (bytes : List ℕ) (n : ℕ) → 0 < n → n ≡ prefix_len is_as
 whole_formed bytes n least e =
     let digits : AllDigits 10 (take n bytes) = rw e (all_digits bytes) in
     let size : length (take n bytes) ≡ n = rw e (word_length bytes is_ascii_digit) in
-    choice bytes (whole_fits n (take n bytes)) (piece (Token Whole) n) (Err Number)
+    choice bytes (whole_fits n (take n bytes)) (lexeme (Token Whole) n) (Err Number)
     (λ f.
     let parts = and_parts (nat_le n 19) (nat_le (digits_value 10 (take n bytes)) 9223372036854775807) f in
     let short : n ≤ 19 = leb-true n 19 parts.0 in
-    formed_piece bytes (Token Whole) n
+    formed_lexeme bytes (Token Whole) n
     (record { some = omega (arith, size); short = omega (arith, size); digits = digits; fits = leb-true (digits_value 10 (take n bytes)) 9223372036854775807 parts.1 }))
     (λ _. formed_fault bytes Number)
 
@@ -166,13 +174,13 @@ take_sum n m bytes =
     ∙ (ap (λ (xs : List ℕ). xs ++ drop n (take (n + m) bytes)) (take-take n (n + m) bytes (omega arith)) ∙ ap (λ (xs : List ℕ). take n bytes ++ xs) (drop-take n m bytes))
 
 -- digits up to the first byte that is none
-digits_form : (bytes : List ℕ) → 0 < prefix_len is_ascii_digit bytes → IsTrue (are_digits (take (prefix_len is_ascii_digit bytes) bytes))
+pub digits_form : (bytes : List ℕ) → 0 < prefix_len is_ascii_digit bytes → IsTrue (are_digits (take (prefix_len is_ascii_digit bytes) bytes))
 digits_form bytes some =
-    let front : List ℕ = take (prefix_len is_ascii_digit bytes) bytes in
-    let size : length front ≡ prefix_len is_ascii_digit bytes = word_length bytes is_ascii_digit in
-    and_from (nat_lt 0 (length front)) (list_all is_ascii_digit front) (lt-ltb 0 (length front) (omega arith)) (all_pass is_ascii_digit bytes)
+    let prefix : List ℕ = take (prefix_len is_ascii_digit bytes) bytes in
+    let size : length prefix ≡ prefix_len is_ascii_digit bytes = word_length bytes is_ascii_digit in
+    and_from (nat_lt 0 (length prefix)) (list_all is_ascii_digit prefix) (lt-ltb 0 (length prefix) (omega arith)) (all_pass is_ascii_digit bytes)
 
-pointed_form : (bytes : List ℕ) → 0 < prefix_len is_ascii_digit bytes → slice_index bytes (prefix_len is_ascii_digit bytes) ≡ 46 → 0 < prefix_len is_ascii_digit (drop (prefix_len is_ascii_digit bytes + 1) bytes) → (let n = prefix_len is_ascii_digit bytes in let rest = drop (n + 1) bytes in let part = prefix_len is_ascii_digit rest in IsPointed (take n bytes) (take part rest) (take (n + 1 + part) bytes))
+pub pointed_form : (bytes : List ℕ) → 0 < prefix_len is_ascii_digit bytes → slice_index bytes (prefix_len is_ascii_digit bytes) ≡ 46 → 0 < prefix_len is_ascii_digit (drop (prefix_len is_ascii_digit bytes + 1) bytes) → (let n = prefix_len is_ascii_digit bytes in let rest = drop (n + 1) bytes in let part = prefix_len is_ascii_digit rest in IsPointed (take n bytes) (take part rest) (take (n + 1 + part) bytes))
 pointed_form bytes some dot more =
     let n = prefix_len is_ascii_digit bytes in
     let rest = drop (n + 1) bytes in
@@ -189,13 +197,13 @@ pointed_form bytes some dot more =
 decimal_formed : (bytes before after : List ℕ) (n : ℕ) → IsPointed before after (take n bytes) → Formed bytes (decimal_of n (take n bytes))
 unfolding decimal_fits
 decimal_formed bytes before after n pointed =
-    choice bytes (decimal_fits (take n bytes)) (piece (Token Decimal) n) (Err Number)
-    (λ e. formed_piece bytes (Token Decimal) n
+    choice bytes (decimal_fits (take n bytes)) (lexeme (Token Decimal) n) (Err Number)
+    (λ e. formed_lexeme bytes (Token Decimal) n
     (record { before = before; after = after; pointed = pointed; fits = sym (ap (λ (r : Result Fraction DecimalFault). is_ok r) (decimal-form before after (take n bytes) pointed)) ∙ e }))
     (λ _. formed_fault bytes Number)
 
-number_formed : (bytes : List ℕ) → 0 < length bytes → is_ascii_digit (slice_index bytes 0) ≡ true → Formed bytes (number_piece bytes)
-unfolding number_piece
+number_formed : (bytes : List ℕ) → 0 < length bytes → is_ascii_digit (slice_index bytes 0) ≡ true → Formed bytes (number_lexeme bytes)
+unfolding number_lexeme
 number_formed bytes some begins =
     let n = prefix_len is_ascii_digit bytes in
     let rest = drop (n + 1) bytes in
@@ -227,10 +235,10 @@ operator_found bytes (f ∷ fs) len e = found_step bytes f fs len (starts_with n
 
 operator_of_formed : (bytes : List ℕ) (o : Option ℕ) → o ≡ first_start operators bytes → Formed bytes (operator_of o)
 operator_of_formed bytes None e = formed_fault bytes NoToken
-operator_of_formed bytes (Some len) e = formed_piece bytes (Token Operator) len (operator_found bytes operators len (sym e))
+operator_of_formed bytes (Some len) e = formed_lexeme bytes (Token Operator) len (operator_found bytes operators len (sym e))
 
-operator_formed : (bytes : List ℕ) → Formed bytes (operator_piece bytes)
-unfolding operator_piece
+operator_formed : (bytes : List ℕ) → Formed bytes (operator_lexeme bytes)
+unfolding operator_lexeme
 operator_formed bytes = operator_of_formed bytes (first_start operators bytes) refl
 
 -- the rest of a text is found in its own bytes alone
@@ -325,8 +333,8 @@ body_taken quote (b ∷ c ∷ bs) body e =
 text_of_formed : (bytes : List ℕ) (o : Option Body) → 0 < length bytes → (slice_index bytes 0 ≡ 34) ⊎ (slice_index bytes 0 ≡ 39) → body_of (slice_index bytes 0) (drop 1 bytes) ≡ o → Formed bytes (text_of o)
 text_of_formed bytes None some quote e = formed_fault bytes BadText
 text_of_formed bytes (Some body) some quote e =
-    choice bytes (nat_le (length body.value) 4096) (piece (Token Text) (1 + body.len)) (Err Long)
-    (λ h. formed_piece bytes (Token Text) (1 + body.len) (text_form h))
+    choice bytes (nat_le (length body.value) 4096) (lexeme (Token Text) (1 + body.len)) (Err Long)
+    (λ h. formed_lexeme bytes (Token Text) (1 + body.len) (text_form h))
     (λ _. formed_fault bytes Long) where
       first : slice_index (take (1 + body.len) bytes) 0 ≡ slice_index bytes 0
       first = get_or-take (1 + body.len) bytes 0 0 (omega arith)
@@ -345,8 +353,8 @@ text_of_formed bytes (Some body) some quote e =
         short = leb-true (length body.value) 4096 h;
       }
 
-text_formed : (bytes : List ℕ) → 0 < length bytes → (slice_index bytes 0 ≡ 34) ⊎ (slice_index bytes 0 ≡ 39) → Formed bytes (text_piece bytes)
-unfolding text_piece
+text_formed : (bytes : List ℕ) → 0 < length bytes → (slice_index bytes 0 ≡ 34) ⊎ (slice_index bytes 0 ≡ 39) → Formed bytes (text_lexeme bytes)
+unfolding text_lexeme
 text_formed bytes some quote = text_of_formed bytes (body_of (slice_index bytes 0) (drop 1 bytes)) some quote refl
 
 one_taken : (bytes : List ℕ) (b : ℕ) → 0 < length bytes → slice_index bytes 0 ≡ b → take 1 bytes ≡ b ∷ []
@@ -364,32 +372,32 @@ comment_form (b ∷ bs) some at =
       on_line = all_pass p bs;
     }
 
-piece_by_formed : (first : ℕ) (bytes : List ℕ) → 0 < length bytes → slice_index bytes 0 ≡ first → Formed bytes (piece_by first bytes)
-unfolding piece_by comment_piece
-piece_by_formed first bytes some at =
-    let quoted : Result Piece LexKind = cond (eqb first 34 || eqb first 39) (text_piece bytes) (operator_piece bytes) in
-    let symbol : Result Piece LexKind = cond (eqb first 58) (symbol_piece bytes) quoted in
-    let number : Result Piece LexKind = cond (is_ascii_digit first) (number_piece bytes) symbol in
-    let word : Result Piece LexKind = cond (begins_name first) (word_piece bytes) number in
-    let semicolon : Result Piece LexKind = cond (eqb first 59) (piece (Token Newline) 1) word in
-    let comment : Result Piece LexKind = cond (eqb first 35) (comment_piece bytes) semicolon in
-    let line : Result Piece LexKind = cond (eqb first 10) (piece Line 1) comment in
-    choice bytes (is_blank first) (piece Blank 1) line (λ e. formed_piece bytes Blank 1 (record { byte = first; blank = e; alone = one_taken bytes first some at }))
-    (λ _. choice bytes (eqb first 10) (piece Line 1) comment (λ e. formed_piece bytes Line 1 (one_taken bytes 10 some (at ∙ eqb-true first 10 e)))
-    (λ _. choice bytes (eqb first 35) (comment_piece bytes) semicolon (λ e. formed_piece bytes Comment (prefix_len (λ b. not (eqb b 10)) bytes) (comment_form bytes some (at ∙ eqb-true first 35 e)))
-    (λ _. choice bytes (eqb first 59) (piece (Token Newline) 1) word (λ e. formed_piece bytes (Token Newline) 1 (inr (one_taken bytes 59 some (at ∙ eqb-true first 59 e))))
-    (λ _. choice bytes (begins_name first) (word_piece bytes) number (λ e. word_formed bytes some (ap begins_name at ∙ e))
-    (λ _. choice bytes (is_ascii_digit first) (number_piece bytes) symbol (λ e. number_formed bytes some (ap is_ascii_digit at ∙ e))
-    (λ _. choice bytes (eqb first 58) (symbol_piece bytes) quoted (λ e. symbol_formed bytes (at ∙ eqb-true first 58 e))
-    (λ _. choice bytes (eqb first 34 || eqb first 39) (text_piece bytes) (operator_piece bytes)
+lexeme_by_formed : (first : ℕ) (bytes : List ℕ) → 0 < length bytes → slice_index bytes 0 ≡ first → Formed bytes (lexeme_by first bytes)
+unfolding lexeme_by comment_lexeme
+lexeme_by_formed first bytes some at =
+    let quoted : Result Lexeme LexKind = cond (eqb first 34 || eqb first 39) (text_lexeme bytes) (operator_lexeme bytes) in
+    let symbol : Result Lexeme LexKind = cond (eqb first 58) (symbol_lexeme bytes) quoted in
+    let number : Result Lexeme LexKind = cond (is_ascii_digit first) (number_lexeme bytes) symbol in
+    let word : Result Lexeme LexKind = cond (begins_name first) (word_lexeme bytes) number in
+    let semicolon : Result Lexeme LexKind = cond (eqb first 59) (lexeme (Token Newline) 1) word in
+    let comment : Result Lexeme LexKind = cond (eqb first 35) (comment_lexeme bytes) semicolon in
+    let line : Result Lexeme LexKind = cond (eqb first 10) (lexeme Line 1) comment in
+    choice bytes (is_blank first) (lexeme Blank 1) line (λ e. formed_lexeme bytes Blank 1 (record { byte = first; blank = e; alone = one_taken bytes first some at }))
+    (λ _. choice bytes (eqb first 10) (lexeme Line 1) comment (λ e. formed_lexeme bytes Line 1 (one_taken bytes 10 some (at ∙ eqb-true first 10 e)))
+    (λ _. choice bytes (eqb first 35) (comment_lexeme bytes) semicolon (λ e. formed_lexeme bytes Comment (prefix_len (λ b. not (eqb b 10)) bytes) (comment_form bytes some (at ∙ eqb-true first 35 e)))
+    (λ _. choice bytes (eqb first 59) (lexeme (Token Newline) 1) word (λ e. formed_lexeme bytes (Token Newline) 1 (inr (one_taken bytes 59 some (at ∙ eqb-true first 59 e))))
+    (λ _. choice bytes (begins_name first) (word_lexeme bytes) number (λ e. word_formed bytes some (ap begins_name at ∙ e))
+    (λ _. choice bytes (is_ascii_digit first) (number_lexeme bytes) symbol (λ e. number_formed bytes some (ap is_ascii_digit at ∙ e))
+    (λ _. choice bytes (eqb first 58) (symbol_lexeme bytes) quoted (λ e. symbol_formed bytes (at ∙ eqb-true first 58 e))
+    (λ _. choice bytes (eqb first 34 || eqb first 39) (text_lexeme bytes) (operator_lexeme bytes)
     (λ e. text_formed bytes some (⊎_elim (λ q. inl (at ∙ eqb-true first 34 q)) (λ q. inr (at ∙ eqb-true first 39 q)) (or_cases (eqb first 34) (eqb first 39) e)))
     (λ _. operator_formed bytes))))))))
 
-pub piece_formed : (bytes : List ℕ) (p : Piece) → 0 < length bytes → piece_of bytes ≡ Ok p → IsPieceForm p.sort (take p.len bytes)
-piece_formed bytes p some e = (piece_by_formed (slice_index bytes 0) bytes some refl).formed p e
+pub lexeme_formed : (bytes : List ℕ) (p : Lexeme) → 0 < length bytes → lexeme_of bytes ≡ Ok p → IsLexemeForm p.sort (take p.len bytes)
+lexeme_formed bytes p some e = (lexeme_by_formed (slice_index bytes 0) bytes some refl).formed p e
 
--- the kept token of a piece, at its place in the text
-kept_form : (s : Standing) (sort : Sort) (kind : TokenKind) (bytes : List ℕ) → IsPieceForm sort bytes → kept_kind s sort ≡ Some kind → IsFormOf kind bytes
+-- the kept token of a lexeme, at its place in the text
+kept_form : (s : Standing) (sort : Sort) (kind : TokenKind) (bytes : List ℕ) → IsLexemeForm sort bytes → kept_kind s sort ≡ Some kind → IsFormOf kind bytes
 kept_form s Blank kind bytes form e = absurd (let z : None ≡ Some kind = e in cc)
 kept_form s Comment kind bytes form e = absurd (let z : None ≡ Some kind = e in cc)
 kept_form s Line kind bytes form e = go (is_dropped s.open_brackets s.goes_on) e where
@@ -407,20 +415,20 @@ tokens_formed text s bytes len (Some kind) left some within form =
     (record { some = omega arith; within = within; form = subst (IsFormOf kind) there (form kind refl) })
     (All-nil (HasForm text))
 
-all_formed : (text : List ℕ) (s : Standing) (bytes : List ℕ) (ps : List Piece) (ts : List Word) → bytes ≡ drop s.at text → AreTokens s bytes ps ts → All (HasForm text) ts
+all_formed : (text : List ℕ) (s : Standing) (bytes : List ℕ) (ps : List Lexeme) (ts : List Word) → bytes ≡ drop s.at text → AreTokens s bytes ps ts → All (HasForm text) ts
 all_formed text s bytes [] ts left h = subst (All (HasForm text)) (sym h.1) (All-nil (HasForm text))
 all_formed text s bytes (p ∷ ps) ts left h =
-    let some : 0 < length bytes = piece_there bytes p h.0 in
+    let some : 0 < length bytes = lexeme_there bytes p h.0 in
     let size : length bytes ≡ length text - s.at = ap length left ∙ length-drop s.at text in
-    let bounds = piece_bounded bytes p some h.0 in
+    let bounds = lexeme_bounded bytes p some h.0 in
     let least = bounds.0 in
     let most = bounds.1 in
     let here : All (HasForm text) (kept s p bytes) =
     tokens_formed text s bytes p.len (kept_kind s p.sort) left least (omega arith)
-    (λ kind e. kept_form s p.sort kind (take p.len bytes) (piece_formed bytes p some h.0) e) in
+    (λ kind e. kept_form s p.sort kind (take p.len bytes) (lexeme_formed bytes p some h.0) e) in
     let rest : All (HasForm text) h.1.0 =
     all_formed text (after s p bytes) (drop p.len bytes) ps h.1.0 (ap (drop p.len) left ∙ drop-drop p.len s.at text) h.1.2 in
     subst (All (HasForm text)) (sym h.1.1) (All-append (HasForm text) (kept s p bytes) h.1.0 here rest)
 
 pub tokens_have_forms : (text : List ℕ) (first_line : ℕ) (ts : List Word) → Lexes text first_line ts → All (HasForm text) ts
-tokens_have_forms text first_line ts h = all_formed text (opening first_line) text h.pieces ts refl h.are_tokens
+tokens_have_forms text first_line ts h = all_formed text (opening first_line) text h.lexemes ts refl h.are_tokens

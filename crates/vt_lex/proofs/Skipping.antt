@@ -5,21 +5,22 @@ use Rattle.std.proofs.lemmas.Bool.{and_parts, and_from, eqb-true}
 use Rattle.std.proofs.lemmas.Bool.Decides.{nat_tests}
 use Rattle.std.proofs.lemmas.List.{get_or-take, get_or-drop, get_or_past, drop-drop, take-append-drop}
 use Rattle.std.proofs.lemmas.List.Elements.{All-head}
+use Rattle.vt_frac.specs.Names.{is_among}
 use Rattle.vt_lex.specs.declared.token.Token.{Token as Word}
 use Rattle.vt_lex.specs.declared.token.TokenKind.{TokenKind}
 use Rattle.vt_lex.specs.declared.token.TokenKind.TheVariants.{Newline}
-use Rattle.vt_lex.specs.declared.piece.Sort.{Sort}
-use Rattle.vt_lex.specs.declared.piece.Sort.TheVariants.{Blank, Comment, Line, Token}
-use Rattle.vt_lex.specs.declared.piece.Piece.{Piece}
+use Rattle.vt_lex.specs.declared.lexeme.Sort.{Sort}
+use Rattle.vt_lex.specs.declared.lexeme.Sort.TheVariants.{Blank, Comment, Line, Token}
+use Rattle.vt_lex.specs.declared.lexeme.Lexeme.{Lexeme}
 use Rattle.vt_lex.specs.Bytes.{is_blank, is_space}
-use Rattle.vt_lex.specs.Words.{is_among, joining}
-use Rattle.vt_lex.specs.Pieces.{piece_by, piece_of, comment_piece}
+use Rattle.vt_lex.specs.Words.{joining}
+use Rattle.vt_lex.specs.Lexemes.{lexeme_by, lexeme_of, comment_lexeme}
 use Rattle.vt_lex.specs.Lexing.{Standing, opening, is_dropped, brackets_after, kept_kind, token_of, tokens_of, goes_on_after, after, AreTokens, Lexes}
 use Rattle.vt_lex.specs.Places.{newlines}
 use Rattle.vt_lex.specs.Skipped.{is_skipped, IsAllElseSkipped, AreNewlinesDropped}
-use Rattle.vt_lex.proofs.Bounds.{piece_bounded}
+use Rattle.vt_lex.proofs.Bounds.{lexeme_bounded}
 use Rattle.vt_lex.proofs.Newlines.{newlines_append}
-use Rattle.vt_lex.proofs.Shapes.{IsPieceForm, IsCommentForm, piece_formed, piece_there, take_sum}
+use Rattle.vt_lex.proofs.Shapes.{IsLexemeForm, IsCommentForm, lexeme_formed, lexeme_there, take_sum}
 use Rattle.vt_lex.proofs.Placing.{newline_first, newlines_in, newlines_of, Follow, all_follow}
 
 step : (b : ℕ) (bs : List ℕ) → get_or bs (prefix_len (λ b. not (eqb b 10)) bs) 10 ≡ 10 → (t : Bool) → eqb b 10 ≡ t → get_or (b ∷ bs) (prefix_len (λ b. not (eqb b 10)) (b ∷ bs)) 10 ≡ 10
@@ -31,13 +32,13 @@ line_end : (bytes : List ℕ) → get_or bytes (prefix_len (λ b. not (eqb b 10)
 line_end [] = refl
 line_end (b ∷ bs) = step b bs (line_end bs) (eqb b 10) refl
 
-comment_len : (bytes : List ℕ) (p : Piece) → piece_of bytes ≡ Ok p → slice_index bytes 0 ≡ 35 → p.len ≡ prefix_len (λ b. not (eqb b 10)) bytes
-unfolding piece_by comment_piece
+comment_len : (bytes : List ℕ) (p : Lexeme) → lexeme_of bytes ≡ Ok p → slice_index bytes 0 ≡ 35 → p.len ≡ prefix_len (λ b. not (eqb b 10)) bytes
+unfolding lexeme_by comment_lexeme
 comment_len bytes p e first =
     let n = prefix_len (λ b. not (eqb b 10)) bytes in
-    let z : Ok (record { sort = Comment; len = n }) ≡ Ok p = sym (ap (λ (b : ℕ). piece_by b bytes) first) ∙ e in
+    let z : Ok (record { sort = Comment; len = n }) ≡ Ok p = sym (ap (λ (b : ℕ). lexeme_by b bytes) first) ∙ e in
     let same : record { sort = Comment; len = n } ≡ p = cc in
-    sym (ap (λ (x : Piece). x.len) same)
+    sym (ap (λ (x : Lexeme). x.len) same)
 
 -- a comment that is followed by a newline, or by this byte
 in_comment : (next : ℕ) (xs : List ℕ) → get_or xs 0 next ≡ 10 → is_skipped false next xs ≡ true → is_skipped true next xs ≡ true
@@ -58,26 +59,26 @@ blank_skipped next b xs e h =
     let space : (eqb b 35 || is_space b) ≡ true = grind (arith, nat_tests) in
     and_from (eqb b 35 || is_space b) (is_skipped (eqb b 35) next xs) space (ap (λ (t : Bool). is_skipped t next xs) no_hash ∙ h)
 
-piece_skipped : (s : Standing) (sort : Sort) (next : ℕ) (front xs : List ℕ) → kept_kind s sort ≡ None → IsPieceForm sort front → (sort ≡ Comment → get_or xs 0 next ≡ 10) → is_skipped false next xs ≡ true → is_skipped false next (front ++ xs) ≡ true
-piece_skipped s Blank next front xs e form ends h = ap (λ (f : List ℕ). is_skipped false next (f ++ xs)) form.alone ∙ blank_skipped next form.byte xs form.blank h
-piece_skipped s Comment next front xs e form ends h =
+lexeme_skipped : (s : Standing) (sort : Sort) (next : ℕ) (prefix xs : List ℕ) → kept_kind s sort ≡ None → IsLexemeForm sort prefix → (sort ≡ Comment → get_or xs 0 next ≡ 10) → is_skipped false next xs ≡ true → is_skipped false next (prefix ++ xs) ≡ true
+lexeme_skipped s Blank next prefix xs e form ends h = ap (λ (f : List ℕ). is_skipped false next (f ++ xs)) form.alone ∙ blank_skipped next form.byte xs form.blank h
+lexeme_skipped s Comment next prefix xs e form ends h =
     ap (λ (f : List ℕ). is_skipped false next (f ++ xs)) form.hash ∙ on_line next form.line xs form.on_line (in_comment next xs (ends refl) h)
-piece_skipped s Line next front xs e form ends h = ap (λ (f : List ℕ). is_skipped false next (f ++ xs)) form ∙ h
-piece_skipped s (Token kind) next front xs e form ends h = absurd (let z : Some kind ≡ None = e in cc)
+lexeme_skipped s Line next prefix xs e form ends h = ap (λ (f : List ℕ). is_skipped false next (f ++ xs)) form ∙ h
+lexeme_skipped s (Token kind) next prefix xs e form ends h = absurd (let z : Some kind ≡ None = e in cc)
 
 -- newlines outside of the tokens are dropped
-piece_dropped : (s : Standing) (sort : Sort) (front xs : List ℕ) → kept_kind s sort ≡ None → newlines front ≡ newlines_in sort → (0 < newlines xs → is_dropped s.open_brackets s.goes_on ≡ true) → 0 < newlines (front ++ xs) → is_dropped s.open_brackets s.goes_on ≡ true
-piece_dropped s Blank front xs e lines rest some = let sum = newlines_append front xs in rest (omega arith)
-piece_dropped s Comment front xs e lines rest some = let sum = newlines_append front xs in rest (omega arith)
-piece_dropped s Line front xs e lines rest some = go (is_dropped s.open_brackets s.goes_on) e where
+lexeme_dropped : (s : Standing) (sort : Sort) (prefix xs : List ℕ) → kept_kind s sort ≡ None → newlines prefix ≡ newlines_in sort → (0 < newlines xs → is_dropped s.open_brackets s.goes_on ≡ true) → 0 < newlines (prefix ++ xs) → is_dropped s.open_brackets s.goes_on ≡ true
+lexeme_dropped s Blank prefix xs e lines rest some = let sum = newlines_append prefix xs in rest (omega arith)
+lexeme_dropped s Comment prefix xs e lines rest some = let sum = newlines_append prefix xs in rest (omega arith)
+lexeme_dropped s Line prefix xs e lines rest some = go (is_dropped s.open_brackets s.goes_on) e where
   go : (t : Bool) → cond t None (Some Newline) ≡ None → t ≡ true
   go true f = refl
   go false f = absurd (let z : Some Newline ≡ None = f in cc)
-piece_dropped s (Token kind) front xs e lines rest some = absurd (let z : Some kind ≡ None = e in cc)
+lexeme_dropped s (Token kind) prefix xs e lines rest some = absurd (let z : Some kind ≡ None = e in cc)
 
--- no bracket begins a piece that makes no token
-same_brackets : (s : Standing) (sort : Sort) (front : List ℕ) → kept_kind s sort ≡ None → IsPieceForm sort front → brackets_after s.open_brackets (slice_index front 0) ≡ s.open_brackets
-same_brackets s Blank front e form = ap (λ (f : List ℕ). brackets_after s.open_brackets (slice_index f 0)) form.alone ∙ go form.byte form.blank where
+-- no bracket begins a lexeme that makes no token
+same_brackets : (s : Standing) (sort : Sort) (prefix : List ℕ) → kept_kind s sort ≡ None → IsLexemeForm sort prefix → brackets_after s.open_brackets (slice_index prefix 0) ≡ s.open_brackets
+same_brackets s Blank prefix e form = ap (λ (f : List ℕ). brackets_after s.open_brackets (slice_index f 0)) form.alone ∙ go form.byte form.blank where
   go : (b : ℕ) → is_blank b ≡ true → brackets_after s.open_brackets b ≡ s.open_brackets
   go b h =
       let a1 : eqb b 40 ≡ false = grind (arith, nat_tests) in
@@ -87,9 +88,9 @@ same_brackets s Blank front e form = ap (λ (f : List ℕ). brackets_after s.ope
       let b2 : eqb b 93 ≡ false = grind (arith, nat_tests) in
       let b3 : eqb b 125 ≡ false = grind (arith, nat_tests) in
       rw (a1, a2, a3, b1, b2, b3) refl
-same_brackets s Comment front e form = ap (λ (f : List ℕ). brackets_after s.open_brackets (slice_index f 0)) form.hash
-same_brackets s Line front e form = ap (λ (f : List ℕ). brackets_after s.open_brackets (slice_index f 0)) form
-same_brackets s (Token kind) front e form = absurd (let z : Some kind ≡ None = e in cc)
+same_brackets s Comment prefix e form = ap (λ (f : List ℕ). brackets_after s.open_brackets (slice_index f 0)) form.hash
+same_brackets s Line prefix e form = ap (λ (f : List ℕ). brackets_after s.open_brackets (slice_index f 0)) form
+same_brackets s (Token kind) prefix e form = absurd (let z : Some kind ≡ None = e in cc)
 
 -- the byte after a place in a part of the text, or behind it
 next_byte : (text : List ℕ) (a k : ℕ) → get_or (take k (drop a text)) 0 (get_or text (a + k) 10) ≡ get_or text a 10
@@ -117,14 +118,14 @@ pub record Skips (text : List ℕ) (s : Standing) (ts : List Word) : Type 0 wher
   pub skipped : IsAllElseSkipped text s.at ts
   pub dropped : AreNewlinesDropped text s.at s.open_brackets s.goes_on ts
 
--- a piece that makes no token
-module _ (text : List ℕ) (s : Standing) (bytes : List ℕ) (p : Piece) (left : bytes ≡ drop s.at text) (some : 0 < p.len) (e : piece_of bytes ≡ Ok p) (none : kept_kind s p.sort ≡ None) (form : IsPieceForm p.sort (take p.len bytes)) where
+-- a lexeme that makes no token
+module _ (text : List ℕ) (s : Standing) (bytes : List ℕ) (p : Lexeme) (left : bytes ≡ drop s.at text) (some : 0 < p.len) (e : lexeme_of bytes ≡ Ok p) (none : kept_kind s p.sort ≡ None) (form : IsLexemeForm p.sort (take p.len bytes)) where
   here : take p.len bytes ≡ take p.len (drop s.at text)
   here = ap (take p.len) left
 
   comment_ends : p.sort ≡ Comment → get_or text (s.at + p.len) 10 ≡ 10
   comment_ends sort =
-      let known : IsCommentForm (take p.len bytes) = subst (λ (x : Sort). IsPieceForm x (take p.len bytes)) sort form in
+      let known : IsCommentForm (take p.len bytes) = subst (λ (x : Sort). IsLexemeForm x (take p.len bytes)) sort form in
       let first : slice_index bytes 0 ≡ 35 = sym (get_or-take p.len bytes 0 0 some) ∙ ap (λ (xs : List ℕ). slice_index xs 0) known.hash in
       sym (get_or-drop s.at text p.len 10)
       ∙ (ap (λ (xs : List ℕ). get_or xs p.len 10) (sym left) ∙ (ap (λ (n : ℕ). get_or bytes n 10) (comment_len bytes p e first) ∙ line_end bytes))
@@ -142,11 +143,11 @@ module _ (text : List ℕ) (s : Standing) (bytes : List ℕ) (p : Piece) (left :
   passed [] follow skips = record {
     skipped =
         ap (is_skipped false 10) (rest_seam text s.at p.len ∙ ap (λ (xs : List ℕ). xs ++ drop (s.at + p.len) text) (sym here))
-        ∙ piece_skipped s p.sort 10 (take p.len bytes) (drop (s.at + p.len) text) none form
+        ∙ lexeme_skipped s p.sort 10 (take p.len bytes) (drop (s.at + p.len) text) none form
         (λ sort. get_or-drop (s.at + p.len) text 0 10 ∙ (ap (λ (n : ℕ). get_or text n 10) (add-zero (s.at + p.len)) ∙ comment_ends sort)) skips.skipped;
     dropped =
         λ (h : 0 < newlines (drop s.at text)).
-        piece_dropped s p.sort (take p.len bytes) (drop (s.at + p.len) text) none lines
+        lexeme_dropped s p.sort (take p.len bytes) (drop (s.at + p.len) text) none lines
         (λ (more : 0 < newlines (drop (s.at + p.len) text)). sym (ap (λ (xs : List ℕ). is_dropped xs s.goes_on) brackets) ∙ (sym (ap (is_dropped (after s p bytes).open_brackets) goes) ∙ skips.dropped more))
         (subst (λ (xs : List ℕ). 0 < newlines xs) (rest_seam text s.at p.len ∙ ap (λ (xs : List ℕ). xs ++ drop (s.at + p.len) text) (sym here)) h);
   }
@@ -162,19 +163,19 @@ module _ (text : List ℕ) (s : Standing) (bytes : List ℕ) (p : Piece) (left :
       record {
         skipped = (
           ap (is_skipped false (get_or text t.from 10)) cut
-              ∙ piece_skipped s p.sort (get_or text t.from 10) (take p.len bytes) xs none form (λ sort. next ∙ comment_ends sort) skips.skipped.0,
+              ∙ lexeme_skipped s p.sort (get_or text t.from 10) (take p.len bytes) xs none form (λ sort. next ∙ comment_ends sort) skips.skipped.0,
           skips.skipped.1,
         );
         dropped = (
           λ (h : 0 < newlines (take (t.from - s.at) (drop s.at text))).
-              piece_dropped s p.sort (take p.len bytes) xs none lines (λ (more : 0 < newlines xs). sym same ∙ skips.dropped.0 more) (subst (λ (ys : List ℕ). 0 < newlines ys) cut h),
+              lexeme_dropped s p.sort (take p.len bytes) xs none lines (λ (more : 0 < newlines xs). sym same ∙ skips.dropped.0 more) (subst (λ (ys : List ℕ). 0 < newlines ys) cut h),
           λ (h : slice_index text t.from ≡ 10). sym same ∙ skips.dropped.1 h,
           subst (λ (ys : List ℕ). AreNewlinesDropped text t.to (brackets_after ys (slice_index text t.from)) (is_among joining (take (t.to - t.from) (drop t.from text))) ts) brackets skips.dropped.2,
         );
       }
 
--- a piece that makes a token
-token_next : (text : List ℕ) (s : Standing) (bytes : List ℕ) (p : Piece) (kind : TokenKind) (ts : List Word) → bytes ≡ drop s.at text → piece_of bytes ≡ Ok p → kept_kind s p.sort ≡ Some kind → Skips text (after s p bytes) ts → Skips text s (token_of s bytes p.len kind ∷ ts)
+-- a lexeme that makes a token
+token_next : (text : List ℕ) (s : Standing) (bytes : List ℕ) (p : Lexeme) (kind : TokenKind) (ts : List Word) → bytes ≡ drop s.at text → lexeme_of bytes ≡ Ok p → kept_kind s p.sort ≡ Some kind → Skips text (after s p bytes) ts → Skips text s (token_of s bytes p.len kind ∷ ts)
 token_next text s bytes p kind ts left e made skips =
     let nothing : s.at - s.at ≡ 0 = omega arith in
     let size : p.len ≡ s.at + p.len - s.at = omega arith in
@@ -194,11 +195,11 @@ token_next text s bytes p kind ts left e made skips =
       kept_line true f = absurd (let z : None ≡ Some kind = f in cc)
       kept_line false f = refl
 
-next_skips : (text : List ℕ) (s : Standing) (bytes : List ℕ) (p : Piece) (o : Option TokenKind) (ts : List Word) → bytes ≡ drop s.at text → 0 < p.len → piece_of bytes ≡ Ok p → kept_kind s p.sort ≡ o → IsPieceForm p.sort (take p.len bytes) → Follow (s.at + p.len) ts → Skips text (after s p bytes) ts → Skips text s (tokens_of s bytes p.len o ++ ts)
+next_skips : (text : List ℕ) (s : Standing) (bytes : List ℕ) (p : Lexeme) (o : Option TokenKind) (ts : List Word) → bytes ≡ drop s.at text → 0 < p.len → lexeme_of bytes ≡ Ok p → kept_kind s p.sort ≡ o → IsLexemeForm p.sort (take p.len bytes) → Follow (s.at + p.len) ts → Skips text (after s p bytes) ts → Skips text s (tokens_of s bytes p.len o ++ ts)
 next_skips text s bytes p None ts left some e made form follow skips = passed text s bytes p left some e made form ts follow skips
 next_skips text s bytes p (Some kind) ts left some e made form follow skips = token_next text s bytes p kind ts left e made skips
 
-all_skip : (text : List ℕ) (s : Standing) (bytes : List ℕ) (ps : List Piece) (ts : List Word) → bytes ≡ drop s.at text → AreTokens s bytes ps ts → Skips text s ts
+all_skip : (text : List ℕ) (s : Standing) (bytes : List ℕ) (ps : List Lexeme) (ts : List Word) → bytes ≡ drop s.at text → AreTokens s bytes ps ts → Skips text s ts
 all_skip text s bytes [] ts left h =
     let end : drop s.at text ≡ [] = sym left ∙ h.0 in
     subst (Skips text s) (sym h.1)
@@ -207,11 +208,11 @@ all_skip text s bytes [] ts left h =
       dropped = λ (some : 0 < newlines (drop s.at text)). absurd (let z : 0 < 0 = subst (λ (xs : List ℕ). 0 < newlines xs) end some in omega arith);
     })
 all_skip text s bytes (p ∷ ps) ts left h =
-    let there : 0 < length bytes = piece_there bytes p h.0 in
+    let there : 0 < length bytes = lexeme_there bytes p h.0 in
     subst (Skips text s) (sym h.1.1)
-    (next_skips text s bytes p (kept_kind s p.sort) h.1.0 left (piece_bounded bytes p there h.0).0 h.0 refl (piece_formed bytes p there h.0)
+    (next_skips text s bytes p (kept_kind s p.sort) h.1.0 left (lexeme_bounded bytes p there h.0).0 h.0 refl (lexeme_formed bytes p there h.0)
     (all_follow (after s p bytes) (drop p.len bytes) ps h.1.0 h.1.2)
     (all_skip text (after s p bytes) (drop p.len bytes) ps h.1.0 (ap (drop p.len) left ∙ drop-drop p.len s.at text) h.1.2))
 
 pub all_else_skipped : (text : List ℕ) (first_line : ℕ) (ts : List Word) → Lexes text first_line ts → Skips text (opening first_line) ts
-all_else_skipped text first_line ts h = all_skip text (opening first_line) text h.pieces ts refl h.are_tokens
+all_else_skipped text first_line ts h = all_skip text (opening first_line) text h.lexemes ts refl h.are_tokens

@@ -3,26 +3,26 @@ use Rattle.std.proofs.Common.{◌≡◌, ℕ, ◌+◌, ◌-◌, ◌<◌, ◌≤�
 use Rattle.std.proofs.lemmas.List.{append-nil, drop-drop}
 use Rattle.vt_lex.specs.declared.token.Token.{Token}
 use Rattle.vt_lex.specs.declared.fault.LexKind.{LexKind}
-use Rattle.vt_lex.specs.declared.piece.Piece.{Piece}
-use Rattle.vt_lex.specs.Pieces.{piece_of}
+use Rattle.vt_lex.specs.declared.lexeme.Lexeme.{Lexeme}
+use Rattle.vt_lex.specs.Lexemes.{lexeme_of}
 use Rattle.vt_lex.specs.Lexing.{Standing, opening, kept, after, AreTokens, IsFirstFault, Lexes, LexRefuses, line_after}
-use Rattle.vt_lex.specs.declared.piece.Sort.{Sort}
-use Rattle.vt_lex.specs.declared.piece.Sort.TheVariants.{Blank, Comment, Line, Token as TokenOf}
-use Rattle.vt_lex.proofs.Bounds.{piece_bounded}
+use Rattle.vt_lex.specs.declared.lexeme.Sort.{Sort}
+use Rattle.vt_lex.specs.declared.lexeme.Sort.TheVariants.{Blank, Comment, Line, Token as TokenOf}
+use Rattle.vt_lex.proofs.Bounds.{lexeme_bounded}
 
 -- what is found from here on follows the tokens so far, and a fault from here on is the text's
 pub record Continues (text : List ℕ) (first_line : ℕ) (s : Standing) (bytes : List ℕ) (so_far : List Token) : Type 0 where
-  pub tokens : (ps : List Piece) (rest : List Token) → AreTokens s bytes ps rest → Lexes text first_line (so_far ++ rest)
-  pub fault : (ps : List Piece) (line : ℕ) (kind : LexKind) → IsFirstFault s bytes ps line kind → LexRefuses text first_line line kind
+  pub tokens : (ps : List Lexeme) (rest : List Token) → AreTokens s bytes ps rest → Lexes text first_line (so_far ++ rest)
+  pub fault : (ps : List Lexeme) (line : ℕ) (kind : LexKind) → IsFirstFault s bytes ps line kind → LexRefuses text first_line line kind
 
 pub continues_start : (text : List ℕ) (first_line : ℕ) → Continues text first_line (opening first_line) text []
 continues_start text first_line = record {
-  tokens = λ ps rest h. record { pieces = ps; are_tokens = h };
-  fault = λ ps line kind h. record { pieces = ps; is_first = h };
+  tokens = λ ps rest h. record { lexemes = ps; are_tokens = h };
+  fault = λ ps line kind h. record { lexemes = ps; is_first = h };
 }
 
-pub continues_piece : (text : List ℕ) (first_line : ℕ) (s : Standing) (bytes : List ℕ) (so_far : List Token) (p : Piece) → Continues text first_line s bytes so_far → piece_of bytes ≡ Ok p → Continues text first_line (after s p bytes) (drop p.len bytes) (so_far ++ kept s p bytes)
-continues_piece text first_line s bytes so_far p c e = record {
+pub continues_lexeme : (text : List ℕ) (first_line : ℕ) (s : Standing) (bytes : List ℕ) (so_far : List Token) (p : Lexeme) → Continues text first_line s bytes so_far → lexeme_of bytes ≡ Ok p → Continues text first_line (after s p bytes) (drop p.len bytes) (so_far ++ kept s p bytes)
+continues_lexeme text first_line s bytes so_far p c e = record {
   tokens = λ ps rest h.
       subst (λ (ts : List Token). Lexes text first_line ts) (sym (append_assoc so_far (kept s p bytes) rest))
       (c.tokens (p ∷ ps) (kept s p bytes ++ rest) (e, (rest, refl, h)));
@@ -33,14 +33,14 @@ pub continues_end : (text : List ℕ) (first_line : ℕ) (s : Standing) (bytes :
 continues_end text first_line s bytes so_far c e =
     subst (λ (ts : List Token). Lexes text first_line ts) (append-nil so_far) (c.tokens [] [] (e, refl))
 
-pub continues_fault : (text : List ℕ) (first_line : ℕ) (s : Standing) (bytes : List ℕ) (so_far : List Token) (kind : LexKind) → Continues text first_line s bytes so_far → 0 < length bytes → piece_of bytes ≡ Err kind → LexRefuses text first_line s.line kind
+pub continues_fault : (text : List ℕ) (first_line : ℕ) (s : Standing) (bytes : List ℕ) (so_far : List Token) (kind : LexKind) → Continues text first_line s bytes so_far → 0 < length bytes → lexeme_of bytes ≡ Err kind → LexRefuses text first_line s.line kind
 continues_fault text first_line s bytes so_far kind c some e = c.fault [] s.line kind (some, e, refl)
 
--- the length of a piece at the head of what is left
-pub step_bounds : (text : List ℕ) (at : ℕ) (bs : List ℕ) (p : Piece) → bs ≡ drop at text → at < length text → Ok p ≡ piece_of bs → (0 < p.len) × (p.len ≤ length bs) × (at + p.len ≤ length text)
+-- the length of a lexeme at the head of what is left
+pub step_bounds : (text : List ℕ) (at : ℕ) (bs : List ℕ) (p : Lexeme) → bs ≡ drop at text → at < length text → Ok p ≡ lexeme_of bs → (0 < p.len) × (p.len ≤ length bs) × (at + p.len ≤ length text)
 step_bounds text at bs p left more e =
     let size : length bs ≡ length text - at = ap length left ∙ length-drop at text in
-    let bounds = piece_bounded bs p (omega arith) (sym e) in
+    let bounds = lexeme_bounded bs p (omega arith) (sym e) in
     (bounds.0, bounds.1, omega arith)
 
 pub line_after_most : (line : ℕ) (sort : Sort) → line_after line sort ≤ line + 1
@@ -49,10 +49,10 @@ line_after_most line Comment = omega arith
 line_after_most line Line = omega arith
 line_after_most line (TokenOf kind) = omega arith
 
-pub continues_passed : (text : List ℕ) (first_line : ℕ) (s : Standing) (at : ℕ) (bs : List ℕ) (so_far : List Token) (p : Piece) (t : Standing) (to : ℕ) (now : List Token) → Continues text first_line s (drop at text) so_far → bs ≡ drop at text → Ok p ≡ piece_of bs → t ≡ after s p bs → to ≡ at + p.len → now ≡ so_far ++ kept s p bs → Continues text first_line t (drop to text) now
+pub continues_passed : (text : List ℕ) (first_line : ℕ) (s : Standing) (at : ℕ) (bs : List ℕ) (so_far : List Token) (p : Lexeme) (t : Standing) (to : ℕ) (now : List Token) → Continues text first_line s (drop at text) so_far → bs ≡ drop at text → Ok p ≡ lexeme_of bs → t ≡ after s p bs → to ≡ at + p.len → now ≡ so_far ++ kept s p bs → Continues text first_line t (drop to text) now
 continues_passed text first_line s at bs so_far p t to now c left e stands passed tokens =
     let here : Continues text first_line s bs so_far = subst (λ (xs : List ℕ). Continues text first_line s xs so_far) (sym left) c in
-    let there = continues_piece text first_line s bs so_far p here (sym e) in
+    let there = continues_lexeme text first_line s bs so_far p here (sym e) in
     let rest : drop p.len bs ≡ drop to text = ap (drop p.len) left ∙ (drop-drop p.len at text ∙ ap (λ n. drop n text) (sym passed)) in
     let moved : Continues text first_line (after s p bs) (drop to text) (so_far ++ kept s p bs) =
     subst (λ (xs : List ℕ). Continues text first_line (after s p bs) xs (so_far ++ kept s p bs)) rest there in

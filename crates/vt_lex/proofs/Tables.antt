@@ -1,7 +1,8 @@
 -- The tables of the program are the words and operators of the language.
 use Rattle.std.proofs.Common.{◌≡◌, ℕ, List, ◌++◌, map, refl}
+use Rattle.vt_frac.specs.Names.{keywords, reserved}
 use Rattle.vt_lex.specs.declared.words.TheConstants.{JOINING_OPERATORS, PLAIN_OPERATORS, JOINING_KEYWORDS, PLAIN_KEYWORDS, RESERVED}
-use Rattle.vt_lex.specs.Words.{keywords, reserved, operators, joining}
+use Rattle.vt_lex.specs.Words.{operators, joining}
 
 -- the texts of a constant
 abbrev pub texts_of : List (record { now : List ℕ }) → List (List ℕ)

@@ -1,12 +1,13 @@
 pub mod Bytes
 pub mod Words
 pub mod Texts
-pub mod Measures
 pub mod Numbers
-pub mod Pieces
+pub mod Lexemes
 pub mod Lexing
-pub mod Stands
 pub mod Answers
+pub mod Faults
 pub mod Forms
 pub mod Places
 pub mod Skipped
+pub mod TokenLaws
+pub mod private

@@ -1,8 +1,9 @@
 -- What stands outside of the tokens of a text, and which newlines make no token. The project's own.
 use Rattle.std.specs.Prelude.{◌≡◌, ℕ, ◌<◌, Bool, true, false, not, ◌||◌, ◌&&◌, ◌==◌, List, [], ◌∷◌, drop, slice_index, slice_index_or, slice_range}
+use Rattle.vt_frac.specs.Names.{is_among}
 use Rattle.vt_lex.specs.declared.token.Token.{Token}
 use Rattle.vt_lex.specs.Bytes.{is_space}
-use Rattle.vt_lex.specs.Words.{is_among, joining}
+use Rattle.vt_lex.specs.Words.{joining}
 use Rattle.vt_lex.specs.Lexing.{is_dropped, brackets_after}
 use Rattle.vt_lex.specs.Places.{newlines}
 

@@ -1,7 +1,9 @@
+//! The classes of bytes, and how many of one class stand at a head.
 ghost use Rattle.std.specs.Prelude.{◌≡◌, not, ◌==◌, slice_index_or, ◌≤◌, length};
 ghost use Rattle.std.specs.List.{prefix_len};
 ghost use Rattle.std.specs.Char.{is_ascii_digit};
-ghost use Rattle.vt_lex.specs.Bytes.{is_blank, is_space, begins_name, begins_symbol, is_name_byte};
+ghost use Rattle.vt_frac.specs.Names.{begins_name, begins_symbol, is_name_byte};
+ghost use Rattle.vt_lex.specs.Bytes.{is_blank, is_space};
 
 pub(crate) fn is_blank(byte: u8) -> bool
     ensures { result ≡ is_blank byte }

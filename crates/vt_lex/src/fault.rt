@@ -1,4 +1,6 @@
+//! The faults of a text that has no tokens.
 ghost use Rattle.std.specs.Prelude.{◌≡◌};
+ghost use Rattle.vt_lex.specs.Faults.{lex_word};
 
 use std::alloc::{AllocError, AllocFailed};
 use std::fmt;
@@ -18,15 +20,28 @@ pub enum LexKind {
     Long,
 }
 
-impl fmt::Display for LexKind {
-    fn fmt<W: fmt::Write>(&self, f: &mut fmt::Formatter<W>) -> fmt::Result {
-        let word = match self {
+impl LexKind {
+    /// Its word in a verdict.
+    pub fn word(self) -> &'static str
+        ensures { result.now ≡ lex_word self }
+    {
+        match self {
             LexKind::Byte => "byte",
             LexKind::Text => "text",
             LexKind::Number => "number",
             LexKind::Long => "long",
-        };
-        write!(f, "{word}")
+        }
+    }
+}
+
+impl fmt::Display for LexKind {
+    ghost use Rattle.std.specs.Prelude.{Some};
+    ghost use Rattle.vt_lex.specs.Faults.{lex_word};
+
+    ghost output = { λ kind. Some (lex_word kind) };
+
+    fn fmt<W: fmt::Write>(&self, f: &mut fmt::Formatter<W>) -> fmt::Result {
+        f.write_str(self.word())
     }
 }
 

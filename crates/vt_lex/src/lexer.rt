@@ -1,3 +1,4 @@
+//! The tokens of a text, lexeme by lexeme.
 ghost use Rattle.std.specs.Prelude.{◌≡◌, ◌+◌, ◌<◌, ◌≤◌, ◌^◌, ◌++◌, length, slice_index, vec_len, OnOk, IfOk, IfErr, [], ◌-◌};
 ghost use Rattle.vt_lex.specs.Lexing.{innermost, partner, is_opening, brackets_after, is_dropped, kept_kind, token_of, line_after};
 ghost use Rattle.vt_lex.specs.Lexing.{Lexes};
@@ -5,7 +6,7 @@ ghost use Rattle.vt_lex.specs.Answers.{Faults};
 
 use crate::bytes::{byte_or, is_space};
 use crate::fault::LexFault;
-use crate::piece::{Piece, Sort, piece_at};
+use crate::lexeme::{Lexeme, Sort, lexeme_at};
 use crate::token::{Token, TokenKind};
 use crate::words::is_joining;
 use std::alloc::{AllocError, Global};
@@ -41,7 +42,7 @@ fn is_opening(byte: u8) -> bool
     byte == b'(' || byte == b'[' || byte == b'{'
 }
 
-/// Opens or closes a bracket, where a piece that begins with this byte does.
+/// Opens or closes a bracket, where a lexeme that begins with this byte does.
 fn turn_bracket(open_brackets: &mut Vec<u8>, byte: u8) -> Result<(), AllocError>
     ensures { OnOk result (open_brackets.new.items ≡ brackets_after open_brackets.old.items byte) }
 {
@@ -68,7 +69,7 @@ struct Lexer {
 
 impl Lexer {
     ghost use Rattle.vt_lex.specs.Lexing.{opening, after, kept};
-    ghost use Rattle.vt_lex.specs.Stands.{standing_of};
+    ghost use Rattle.vt_lex.specs.private.Stands.{standing_of};
 
     fn new(alloc: Global, first_line: u32) -> Lexer
         ensures stands { standing_of result ≡ opening first_line }
@@ -92,7 +93,7 @@ impl Lexer {
         bracket == b'(' || bracket == b'[' || self.goes_on
     }
 
-    /// The kind of the token that a piece makes, if it makes one.
+    /// The kind of the token that a lexeme makes, if it makes one.
     fn kept_kind(&self, sort: Sort) -> Option<TokenKind>
         ensures { result ≡ kept_kind (standing_of self.now) sort }
     {
@@ -125,26 +126,26 @@ impl Lexer {
         }
     }
 
-    /// Passes the piece at the head of the bytes, and keeps its token.
-    fn pass(&mut self, piece: Piece, bytes: &[u8]) -> Result<(), AllocError>
-        requires some { 0 < piece.len }
-        requires within { piece.len ≤ length bytes.now }
-        requires at_fits { self.old.at + piece.len < 2 ^ 32 }
+    /// Passes the lexeme at the head of the bytes, and keeps its token.
+    fn pass(&mut self, lexeme: Lexeme, bytes: &[u8]) -> Result<(), AllocError>
+        requires some { 0 < lexeme.len }
+        requires within { lexeme.len ≤ length bytes.now }
+        requires at_fits { self.old.at + lexeme.len < 2 ^ 32 }
         requires line_fits { self.old.line + 1 < 2 ^ 32 }
-        ensures stands { OnOk result (standing_of self.new ≡ after (standing_of self.old) piece bytes.now) }
-        ensures tokens { OnOk result (self.new.tokens.items ≡ self.old.tokens.items ++ kept (standing_of self.old) piece bytes.now) }
+        ensures stands { OnOk result (standing_of self.new ≡ after (standing_of self.old) lexeme bytes.now) }
+        ensures tokens { OnOk result (self.new.tokens.items ≡ self.old.tokens.items ++ kept (standing_of self.old) lexeme bytes.now) }
     {
-        if let Some(kind) = self.kept_kind(piece.sort) {
-            let token = self.token_here(kind, piece.len, bytes);
+        if let Some(kind) = self.kept_kind(lexeme.sort) {
+            let token = self.token_here(kind, lexeme.len, bytes);
             self.tokens.push(token)?;
-            self.goes_on = is_joining(&bytes[..piece.len]);
+            self.goes_on = is_joining(&bytes[..lexeme.len]);
         }
         turn_bracket(&mut self.open_brackets, bytes[0])?;
-        if let Sort::Line = piece.sort {
+        if let Sort::Line = lexeme.sort {
             self.line += 1;
         }
-        self.at += piece.len;
-        self.before = bytes[piece.len - 1];
+        self.at += lexeme.len;
+        self.before = bytes[lexeme.len - 1];
         Ok(())
     }
 }
@@ -158,14 +159,14 @@ pub fn lex(alloc: Global, text: &[u8], first_line: u32) -> Result<Vec<Token>, Le
     ensures fault { IfErr result (Faults text.now first_line) }
 {
     let mut lexer = Lexer::new(alloc, first_line);
-    'pieces: while lexer.at < text.len() {
+    'lexemes: while lexer.at < text.len() {
         let bytes = &text[lexer.at..];
-        match piece_at(bytes) {
+        match lexeme_at(bytes) {
             Err(kind) => {
                 let line = lexer.line;
                 return Err(LexFault::At { line, kind });
             }
-            Ok(piece) => lexer.pass(piece, bytes)?,
+            Ok(lexeme) => lexer.pass(lexeme, bytes)?,
         }
     }
     let Lexer { tokens, .. } = lexer;

@@ -4,9 +4,9 @@
 mod bytes;
 mod fault;
 mod laws;
+mod lexeme;
 mod lexer;
 mod numbers;
-mod piece;
 mod texts;
 mod token;
 mod words;
@@ -14,11 +14,8 @@ mod words;
 pub use fault::{LexFault, LexKind};
 pub use laws::{
     always_law, apart_law, forms_law, longest_law, one_fault_law, one_list_law, places_law,
-    skipped_law,
+    reason_law, refused_law, skipped_law,
 };
 pub use lexer::lex;
 pub use texts::text_value;
 pub use token::{Token, TokenKind};
-
-#[cfg(test)]
-mod tests;

@@ -1,3 +1,4 @@
+//! Which numbers fit.
 ghost use Rattle.std.specs.Prelude.{◌≡◌, ◌<◌, ◌≤◌, length};
 ghost use Rattle.std.specs.Str.Parse.{digits_value, AllDigits};
 ghost use Rattle.vt_lex.specs.Numbers.{whole_fits, decimal_fits};

@@ -1,6 +1,7 @@
+//! The form of a text and its value.
 ghost use Rattle.std.specs.Prelude.{◌≡◌, ◌+◌, ◌<◌, ◌≤◌, ◌^◌, length, slice_index, drop, IfOk, IfSome};
 ghost use Rattle.vt_lex.specs.Texts.{unit_of, escaped, body_of, IsTextForm, value_of};
-ghost use Rattle.vt_lex.specs.Measures.{measured, IsWithin};
+ghost use Rattle.vt_lex.specs.private.Measures.{measured, IsWithin};
 
 use crate::bytes::byte_or;
 use std::alloc::Global;

@@ -1,3 +1,5 @@
+//! Tokens and their kinds.
+
 /// A token: its kind, the bytes `from..to` of the text that it stands at, its line, and what stands round it.
 #[derive(Clone, Copy, Debug, PartialEq, Eq)]
 pub struct Token {

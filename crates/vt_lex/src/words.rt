@@ -1,5 +1,8 @@
+//! The words and operators of the language, and which of them bytes are.
 ghost use Rattle.std.specs.Prelude.{◌≡◌, length};
-ghost use Rattle.vt_lex.specs.Words.{spelled, is_among, first_start, keywords, reserved, operators, joining};
+ghost use Rattle.vt_frac.specs.Names.{is_among, keywords, reserved};
+ghost use Rattle.vt_lex.specs.Words.{first_start, operators, joining};
+ghost use Rattle.vt_lex.specs.private.Spelled.{spelled};
 
 /// The keywords after which a line goes on.
 static JOINING_KEYWORDS: [&[u8]; 3] = [b"and", b"or", b"not"];

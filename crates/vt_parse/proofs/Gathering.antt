@@ -4,17 +4,17 @@ use Rattle.vt_tree.specs.declared.expression.Expr.{Expr}
 use Rattle.vt_tree.specs.declared.statement.Stmt.{Stmt}
 use Rattle.vt_grammar.specs.declared.parts.Arguments.{Arguments}
 use Rattle.vt_grammar.specs.declared.parts.Part.{Part}
-use Rattle.vt_grammar.specs.declared.words.Word.{Word}
+use Rattle.vt_grammar.specs.declared.terminals.Terminal.{Terminal}
 use Rattle.vt_grammar.specs.Form.{Form, mapped, many, many_from}
-use Rattle.vt_grammar.specs.Steps.{Read, Stuck}
+use Rattle.vt_grammar.specs.private.Parsing.{Read, Stuck}
 use Rattle.vt_grammar.specs.Marks.{Mark}
-use Rattle.vt_parse.specs.Parses.{peeked_in}
+use Rattle.vt_parse.specs.private.Parses.{peeked_in}
 use Rattle.vt_grammar.specs.Trees.{Argument, gathered, positional, labelled, present, with_part, with_parts}
 use Rattle.vt_grammar.specs.Grammar.{names_of}
 use Rattle.vt_grammar.proofs.ManyFrom.{from_cons, from_stuck, from_stuck_first, from_end}
 use Rattle.vt_parse.proofs.Loops.{Continues, continues_start}
-use Rattle.vt_grammar.proofs.WordSets.{In, disjoint, apart}
-use Rattle.vt_grammar.proofs.Laws.{Piece}
+use Rattle.vt_grammar.proofs.TerminalSets.{In, disjoint, apart}
+use Rattle.vt_grammar.proofs.MarkLaws.{Rule}
 use Rattle.vt_grammar.proofs.Exact.{Exact}
 use Rattle.vt_parse.proofs.Rules.{loop_one, loop_ok, loop_err, map_read, map_stuck}
 
@@ -27,7 +27,7 @@ pub record Gathers {V W : Type 0} (f : List V → W) (a : Form Mark V) (start he
 pub gathers_start : {V W : Type 0} (f : List V → W) (a : Form Mark V) (o : List Mark) (w : W) → w ≡ f [] → Gathers f a o o w
 gathers_start f a o w e = record { found = []; made = e; on = continues_start (many a) o }
 
-module _ {V W : Type 0} {f : List V → W} {a : Form Mark V} {F M : Word → Bool} (pa : Piece a F M) (d : disjoint M F ≡ true) where
+module _ {V W : Type 0} {f : List V → W} {a : Form Mark V} {F M : Terminal → Bool} (pa : Rule a F M) (d : disjoint M F ≡ true) where
   pub gathers_one : {o m n : List Mark} {w : W} {v : V} (z : W) → ((vs : List V) → w ≡ f vs → z ≡ f (vs ++ v ∷ [])) → Gathers f a o m w → Read a m n v → Gathers f a o n z
   gathers_one z step g h = record { found = g.found ++ _ ∷ []; made = step g.found g.made; on = loop_one pa d g.on h }
 
@@ -50,7 +50,7 @@ pub record GathersFrom {S V W : Type 0} (f : List V → W) (go : S → V → S) 
 pub from_start : {S V W : Type 0} (f : List V → W) (go : S → V → S) (a : S → Form Mark V) (s : S) (o : List Mark) (w : W) → w ≡ f [] → GathersFrom f go a s s o o w
 from_start f go a s o w e = record { found = []; made = e; on = record { read_on = λ n ws h. h; stuck_on = λ n h. h } }
 
-module _ {S V W : Type 0} {f : List V → W} (go : S → V → S) (a : S → Form Mark V) {F M : Word → Bool} (pa : (s : S) → Piece (a s) F M) (d : disjoint M F ≡ true) where
+module _ {S V W : Type 0} {f : List V → W} (go : S → V → S) (a : S → Form Mark V) {F M : Terminal → Bool} (pa : (s : S) → Rule (a s) F M) (d : disjoint M F ≡ true) where
   pub from_one : {s0 s : S} {o m n : List Mark} {w : W} {v : V} (z : W) → ((vs : List V) → w ≡ f vs → z ≡ f (vs ++ v ∷ [])) → GathersFrom f go a s0 s o m w
       → Read (a s) m n v → GathersFrom f go a s0 (go s v) o n z
   from_one {s0 = s0} {s = s} {o = o} {m = m} {n = n} {v = v} z step g h = record {

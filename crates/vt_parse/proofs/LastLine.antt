@@ -2,7 +2,7 @@
 use Rattle.std.proofs.Common.{◌≡◌, ℕ, suc, ◌-◌, List, [], ◌∷◌, Option, None, Some, length, sym, ap, ◌∙◌, arith}
 use Rattle.std.specs.List.{slice_get}
 use Rattle.vt_lex.specs.declared.token.Token.{Token}
-use Rattle.vt_parse.specs.Answers.{end_line}
+use Rattle.vt_parse.specs.private.Ends.{end_line}
 
 line_in : ℕ → Option Token → ℕ
 line_in other None = other

@@ -5,27 +5,27 @@ use Rattle.vt_tree.specs.declared.expression.ChainKind.TheVariants as chains
 use Rattle.vt_tree.specs.declared.expression.Expr.{Expr}
 use Rattle.std.proofs.Common.{Option, Result}
 use Rattle.vt_build.specs.declared.fault.Fault.{Fault}
-use Rattle.vt_parse.specs.Parses.{Parses, peeked_in}
+use Rattle.vt_parse.specs.private.Parses.{Parses, peeked_in}
 use Rattle.vt_tree.specs.declared.statement.Block.{Block}
 use Rattle.vt_grammar.specs.Trees.{Argument}
 use Rattle.vt_build.specs.declared.classes.Class.{Class}
-use Rattle.vt_grammar.specs.declared.words.Word.{Word}
+use Rattle.vt_grammar.specs.declared.terminals.Terminal.{Terminal}
 use Rattle.vt_grammar.specs.Form.{many, optional}
-use Rattle.vt_grammar.specs.Steps.{Read, Stuck}
+use Rattle.vt_grammar.specs.private.Parsing.{Read, Stuck}
 use Rattle.vt_grammar.specs.Marks.{Mark}
-use Rattle.vt_build.specs.Classes.{class_words}
-use Rattle.vt_parse.specs.Levels.{below, ops_of}
+use Rattle.vt_build.specs.private.Classes.{class_terminals}
+use Rattle.vt_parse.specs.private.Levels.{below, ops_of}
 use Rattle.vt_grammar.specs.Grammar.{Opened, among, arg, labelled_arg, block_where, link}
-use Rattle.vt_grammar.specs.Sets.{UnaryStarts, ExprStarts, PostfixGoes, TermGoes, SumGoes, CompGoes, ConjGoes, DisjGoes, ExprGoes}
-use Rattle.vt_grammar.proofs.WordSets.{disjoint}
-use Rattle.vt_grammar.proofs.Laws.{Piece, Maybe, repeat}
-use Rattle.vt_grammar.proofs.Pieces.{Brackets, link_piece, unary_piece, term_piece, sum_piece, comp_piece, conj_piece, negation_piece}
+use Rattle.vt_grammar.specs.private.Sets.{UnaryStarts, ExprStarts, PostfixGoes, TermGoes, SumGoes, CompGoes, ConjGoes, DisjGoes, ExprGoes}
+use Rattle.vt_grammar.proofs.TerminalSets.{disjoint}
+use Rattle.vt_grammar.proofs.MarkLaws.{Rule, Maybe, repeat}
+use Rattle.vt_grammar.proofs.Rules.{Brackets, link_rule, unary_rule, term_rule, sum_rule, comp_rule, conj_rule, negation_rule}
 
-abbrev pub BelowStarts : ChainKind → Bool → Word → Bool
+abbrev pub BelowStarts : ChainKind → Bool → Terminal → Bool
 BelowStarts chains.Expr b = ExprStarts b
 BelowStarts kind b = UnaryStarts b
 
-abbrev pub BelowGoes : ChainKind → Word → Bool
+abbrev pub BelowGoes : ChainKind → Terminal → Bool
 BelowGoes chains.Term = PostfixGoes
 BelowGoes chains.Sum = TermGoes
 BelowGoes chains.Comp = SumGoes
@@ -33,7 +33,7 @@ BelowGoes chains.Conj = CompGoes
 BelowGoes chains.Disj = ConjGoes
 BelowGoes chains.Expr = DisjGoes
 
-abbrev pub LevelGoes : ChainKind → Word → Bool
+abbrev pub LevelGoes : ChainKind → Terminal → Bool
 LevelGoes chains.Term = TermGoes
 LevelGoes chains.Sum = SumGoes
 LevelGoes chains.Comp = CompGoes
@@ -50,16 +50,16 @@ level_apart chains.Disj = refl
 level_apart chains.Expr = refl
 
 module _ (s : Opened) (b : Bool) (bs : Brackets s b) where
-  pub below_piece : (kind : ChainKind) → Piece (below kind s) (BelowStarts kind b) (BelowGoes kind)
-  below_piece chains.Term = unary_piece s b bs
-  below_piece chains.Sum = term_piece s b bs
-  below_piece chains.Comp = sum_piece s b bs
-  below_piece chains.Conj = comp_piece s b bs
-  below_piece chains.Disj = conj_piece s b bs
-  below_piece chains.Expr = negation_piece s b bs
+  pub below_rule : (kind : ChainKind) → Rule (below kind s) (BelowStarts kind b) (BelowGoes kind)
+  below_rule chains.Term = unary_rule s b bs
+  below_rule chains.Sum = term_rule s b bs
+  below_rule chains.Comp = sum_rule s b bs
+  below_rule chains.Conj = comp_rule s b bs
+  below_rule chains.Disj = conj_rule s b bs
+  below_rule chains.Expr = negation_rule s b bs
 
-  pub level_link : (kind : ChainKind) → Piece (link (ops_of kind) (below kind s)) (ops_of kind) (BelowGoes kind)
-  level_link kind = link_piece (below_piece kind)
+  pub level_link : (kind : ChainKind) → Rule (link (ops_of kind) (below kind s)) (ops_of kind) (BelowGoes kind)
+  level_link kind = link_rule (below_rule kind)
 
   pub links_maybe : (kind : ChainKind) → Maybe (many (link (ops_of kind) (below kind s))) (ops_of kind) (LevelGoes kind)
   links_maybe chains.Term = repeat TermGoes (level_link chains.Term) refl refl refl
@@ -70,14 +70,14 @@ module _ (s : Opened) (b : Bool) (bs : Brackets s b) where
   links_maybe chains.Expr = repeat ExprGoes (level_link chains.Expr) refl refl refl
 
 -- a class by another name
-pub class_read : {c d : Class} {o n : List Mark} {t : Mark} → c ≡ d → Read (among (class_words c)) o n t → Read (among (class_words d)) o n t
-class_read {o = o} {n = n} {t = t} e h = subst (λ z. Read (among (class_words z)) o n t) e h
+pub class_read : {c d : Class} {o n : List Mark} {t : Mark} → c ≡ d → Read (among (class_terminals c)) o n t → Read (among (class_terminals d)) o n t
+class_read {o = o} {n = n} {t = t} e h = subst (λ z. Read (among (class_terminals z)) o n t) e h
 
-pub class_stuck : {c d : Class} {o n : List Mark} → c ≡ d → Stuck (among (class_words c)) o n → Stuck (among (class_words d)) o n
-class_stuck {o = o} {n = n} e h = subst (λ z. Stuck (among (class_words z)) o n) e h
+pub class_stuck : {c d : Class} {o n : List Mark} → c ≡ d → Stuck (among (class_terminals c)) o n → Stuck (among (class_terminals d)) o n
+class_stuck {o = o} {n = n} e h = subst (λ z. Stuck (among (class_terminals z)) o n) e h
 
-pub class_peeked : {c d : Class} (o : List Mark) {b : Bool} → c ≡ d → peeked_in (class_words c) o ≡ b → peeked_in (class_words d) o ≡ b
-class_peeked o {b = b} e h = subst (λ z. peeked_in (class_words z) o ≡ b) e h
+pub class_peeked : {c d : Class} (o : List Mark) {b : Bool} → c ≡ d → peeked_in (class_terminals c) o ≡ b → peeked_in (class_terminals d) o ≡ b
+class_peeked o {b = b} e h = subst (λ z. peeked_in (class_terminals z) o ≡ b) e h
 
 -- an argument after one with a label
 pub labels_ok : (s : Opened) (labels : Bool) {o n : List Mark} {v : Argument} → labels ≡ true → Read (labelled_arg s) o n v → Read (arg s labels) o n v

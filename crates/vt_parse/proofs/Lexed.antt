@@ -11,67 +11,67 @@ use Rattle.vt_lex.specs.Numbers.{decimal_fits}
 use Rattle.vt_lex.specs.Places.{AreInOrder}
 use Rattle.vt_lex.proofs.Placing.{tokens_in_order}
 use Rattle.vt_lex.proofs.Shapes.{tokens_have_forms}
-use Rattle.vt_grammar.specs.declared.words.Word.{Word}
-use Rattle.vt_grammar.specs.declared.words.Word.TheVariants as words
-use Rattle.vt_grammar.specs.Marks.{Spelling, keywords, operators, spaced, word_at, word_in, word_of}
+use Rattle.vt_grammar.specs.declared.terminals.Terminal.{Terminal}
+use Rattle.vt_grammar.specs.declared.terminals.Terminal.TheVariants as terminals
+use Rattle.vt_grammar.specs.Marks.{Spelling, keywords, operators, spaced, terminal_at, terminal_in, terminal_of}
 use Rattle.vt_grammar.specs.Tokens.{AreTokens, IsToken, spelled_in}
 use Rattle.vt_grammar.specs.Values.{HasValue}
 
--- a word that has no value
-abbrev is_plain : Word → Bool
-is_plain words.Whole = false
-is_plain words.Decimal = false
-is_plain words.Text = false
+-- a terminal that has no value
+abbrev is_plain : Terminal → Bool
+is_plain terminals.Whole = false
+is_plain terminals.Decimal = false
+is_plain terminals.Text = false
 is_plain _ = true
 
-plain_value : (w : Word) → is_plain w ≡ true → (bytes : List ℕ) → HasValue w bytes
-plain_value words.Whole e bytes = absurd (true≢false (sym e))
-plain_value words.Decimal e bytes = absurd (true≢false (sym e))
-plain_value words.Text e bytes = absurd (true≢false (sym e))
+plain_value : (w : Terminal) → is_plain w ≡ true → (bytes : List ℕ) → HasValue w bytes
+plain_value terminals.Whole e bytes = absurd (true≢false (sym e))
+plain_value terminals.Decimal e bytes = absurd (true≢false (sym e))
+plain_value terminals.Text e bytes = absurd (true≢false (sym e))
 plain_value _ e bytes = tt
 
-spaced_plain : (w : Word) (gap tight : Bool) → is_plain w ≡ true → is_plain (spaced gap tight w) ≡ true
-spaced_plain words.CallOpen true true e = refl
-spaced_plain words.CallOpen true false e = refl
-spaced_plain words.CallOpen false true e = refl
-spaced_plain words.CallOpen false false e = refl
+spaced_plain : (w : Terminal) (gap tight : Bool) → is_plain w ≡ true → is_plain (spaced gap tight w) ≡ true
+spaced_plain terminals.CallOpen true true e = refl
+spaced_plain terminals.CallOpen true false e = refl
+spaced_plain terminals.CallOpen false true e = refl
+spaced_plain terminals.CallOpen false false e = refl
 spaced_plain _ true true e = e
 spaced_plain _ true false e = e
 spaced_plain _ false true e = e
 spaced_plain _ false false e = e
 
--- rows of plain words give plain words
-plain_choice : (w other : Word) (p b : Bool) (rest : Bool) → is_plain w ≡ p → (p && rest) ≡ true → (rest ≡ true → is_plain other ≡ true) → is_plain (cond b w other) ≡ true
+-- rows of plain terminals give plain terminals
+plain_choice : (w other : Terminal) (p b : Bool) (rest : Bool) → is_plain w ≡ p → (p && rest) ≡ true → (rest ≡ true → is_plain other ≡ true) → is_plain (cond b w other) ≡ true
 plain_choice w other true true rest f h later = f
 plain_choice w other true false rest f h later = later h
 plain_choice w other false b rest f h later = absurd (true≢false (sym h))
 
-plain_in : (rows : List Spelling) → list_all (λ row. is_plain row.1) rows ≡ true → (bytes : List ℕ) → is_plain (word_in rows bytes) ≡ true
+plain_in : (rows : List Spelling) → list_all (λ row. is_plain row.1) rows ≡ true → (bytes : List ℕ) → is_plain (terminal_in rows bytes) ≡ true
 plain_in [] e bytes = refl
 plain_in ((spelling, w) ∷ rows) e bytes =
-    plain_choice w (word_in rows bytes) (is_plain w) (bytes_eq spelling bytes) (list_all (λ row. is_plain row.1) rows) refl e (λ h. plain_in rows h bytes)
+    plain_choice w (terminal_in rows bytes) (is_plain w) (bytes_eq spelling bytes) (list_all (λ row. is_plain row.1) rows) refl e (λ h. plain_in rows h bytes)
 
-word_has_value : (kind : TokenKind) (gap tight : Bool) (bytes : List ℕ) → IsFormOf kind bytes → HasValue (word_at kind gap tight bytes) bytes
+terminal_has_value : (kind : TokenKind) (gap tight : Bool) (bytes : List ℕ) → IsFormOf kind bytes → HasValue (terminal_at kind gap tight bytes) bytes
 unfolding decimal_fits
-word_has_value kinds.Newline gap tight bytes form = tt
-word_has_value kinds.Name gap tight bytes form = tt
-word_has_value kinds.Label gap tight bytes form = tt
-word_has_value kinds.Keyword gap tight bytes form = plain_value (word_in keywords bytes) (plain_in keywords refl bytes) bytes
-word_has_value kinds.Reserved gap tight bytes form = tt
-word_has_value kinds.Symbol gap tight bytes form = tt
-word_has_value kinds.Whole gap tight bytes form = (form.digits, let most = form.fits in omega (arith, most))
-word_has_value kinds.Decimal gap tight bytes form =
+terminal_has_value kinds.Newline gap tight bytes form = tt
+terminal_has_value kinds.Name gap tight bytes form = tt
+terminal_has_value kinds.Label gap tight bytes form = tt
+terminal_has_value kinds.Keyword gap tight bytes form = plain_value (terminal_in keywords bytes) (plain_in keywords refl bytes) bytes
+terminal_has_value kinds.Reserved gap tight bytes form = tt
+terminal_has_value kinds.Symbol gap tight bytes form = tt
+terminal_has_value kinds.Whole gap tight bytes form = (form.digits, let most = form.fits in omega (arith, most))
+terminal_has_value kinds.Decimal gap tight bytes form =
     ap (λ r. is_ok r) (decimals.decimal-form form.before form.after bytes form.pointed) ∙ form.fits
-word_has_value kinds.Text gap tight bytes form = form
-word_has_value kinds.Operator gap tight bytes form =
-    plain_value (spaced gap tight (word_in operators bytes)) (spaced_plain (word_in operators bytes) gap tight (plain_in operators refl bytes)) bytes
+terminal_has_value kinds.Text gap tight bytes form = form
+terminal_has_value kinds.Operator gap tight bytes form =
+    plain_value (spaced gap tight (terminal_in operators bytes)) (spaced_plain (terminal_in operators bytes) gap tight (plain_in operators refl bytes)) bytes
 
 token_stands : (text : List ℕ) (t : Token) → HasForm text t → IsToken text t
-unfolding spelled_in word_of
+unfolding spelled_in terminal_of
 token_stands text t h = record {
   ordered = let some = h.some in omega (arith, some);
   inside = h.within;
-  value = word_has_value t.kind t.gap t.tight (slice_range text t.from t.to) h.form;
+  value = terminal_has_value t.kind t.gap t.tight (slice_range text t.from t.to) h.form;
 }
 
 are_tokens : (text : List ℕ) (ts : List Token) → All (HasForm text) ts → AreTokens text ts

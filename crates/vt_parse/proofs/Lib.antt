@@ -1,5 +1,5 @@
 pub mod Loops
-pub mod Fronts
+pub mod Heads
 pub mod Rules
 pub mod Openings
 pub mod Gathering

@@ -1,7 +1,7 @@
 -- What a loop over many of a form keeps.
 use Rattle.std.proofs.Common.{◌≡◌, List, [], ◌∷◌, ◌++◌, sym, ◌∙◌, subst, append_assoc, append-nil}
 use Rattle.vt_grammar.specs.Form.{Form, many}
-use Rattle.vt_grammar.specs.Steps.{Read, Stuck}
+use Rattle.vt_grammar.specs.private.Parsing.{Read, Stuck}
 use Rattle.vt_grammar.proofs.Sequences.{Lawful}
 use Rattle.vt_grammar.proofs.Many.{many_cons, many_stuck, many_end, many_stuck_first}
 use Rattle.vt_grammar.proofs.Choices.{Bars}
@@ -40,4 +40,4 @@ loop_stuck a F M la apart solid o m n vs c some h = c.stuck_on n (many_stuck_fir
 -- a form whose first token was there is stuck past it
 pub moved : {T V : Type 0} (a : Form T V) (o n : List T) (t : T) (rest : List T) → o ≡ t ∷ rest → a.begins (t ∷ []) → Stuck a o n → o ≡ n → ⊥
 moved a o n t rest e b h p =
-    h.stops t rest (sym p ∙ e) (subst (λ f. a.begins (f ++ t ∷ [])) (sym (append_cancel_right h.front [] n (sym h.whole ∙ p))) b)
+    h.stops t rest (sym p ∙ e) (subst (λ f. a.begins (f ++ t ∷ [])) (sym (append_cancel_right h.prefix [] n (sym h.whole ∙ p))) b)

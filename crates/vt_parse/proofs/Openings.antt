@@ -4,7 +4,7 @@ use Rattle.vt_tree.specs.declared.expression.Expr.{Expr}
 use Rattle.vt_tree.specs.declared.statement.Block.{Block}
 use Rattle.vt_tree.specs.declared.statement.Simple.{Simple}
 use Rattle.vt_grammar.specs.declared.parts.Arguments.{Arguments}
-use Rattle.vt_grammar.specs.Steps.{Read, Stuck}
+use Rattle.vt_grammar.specs.private.Parsing.{Read, Stuck}
 use Rattle.vt_grammar.specs.Marks.{Mark}
 use Rattle.vt_grammar.specs.Grammar.{parens_of, list_of, call_of_args, index_of, braces_of, doblock_of, iff_of, opened}
 use Rattle.vt_grammar.proofs.Choices.{nothing_stuck}

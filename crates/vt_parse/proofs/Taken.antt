@@ -1,20 +1,20 @@
--- Steps of the parser where a value decides.
+-- What the parser does where a value decides.
 use Rattle.std.proofs.Common.{◌≡◌, ℕ, zero, suc, Bool, true, false, ◌&&◌, nat_lt, List, [], ◌∷◌, Option, None, refl, sym, subst, arith, lt-ltb}
 use Rattle.vt_tree.specs.declared.expression.Expr.{Expr}
 use Rattle.vt_tree.specs.declared.statement.Block.{Block}
 use Rattle.vt_grammar.specs.declared.parts.Arguments.{Arguments}
 use Rattle.vt_grammar.specs.declared.parts.Part.{Part}
-use Rattle.vt_grammar.specs.declared.words.Word.TheVariants as words
+use Rattle.vt_grammar.specs.declared.terminals.Terminal.TheVariants as terminals
 use Rattle.vt_grammar.specs.Form.{Form, mapped, many_from}
-use Rattle.vt_grammar.specs.Steps.{Read, Stuck}
+use Rattle.vt_grammar.specs.private.Parsing.{Read, Stuck}
 use Rattle.vt_grammar.specs.Marks.{Mark}
-use Rattle.vt_grammar.specs.Sets.{just, PartStarts}
-use Rattle.vt_parse.specs.Parses.{peeked_in}
+use Rattle.vt_grammar.specs.private.Sets.{just, PartStarts}
+use Rattle.vt_parse.specs.private.Parses.{peeked_in}
 use Rattle.vt_grammar.specs.Trees.{gathered, left_after, with_part, with_parts, Left}
 use Rattle.vt_grammar.specs.Grammar.{Opened, part, after_part, next_arg, labels_begun, block_where, opened}
 use Rattle.vt_grammar.proofs.Choices.{empty_read}
-use Rattle.vt_grammar.proofs.WordSets.{In, included}
-use Rattle.vt_grammar.proofs.Pieces.{has_room, brackets, part_piece}
+use Rattle.vt_grammar.proofs.TerminalSets.{In, included}
+use Rattle.vt_grammar.proofs.Rules.{has_room, brackets, part_rule}
 use Rattle.vt_grammar.proofs.Exact.{exacts, part_exact}
 use Rattle.vt_parse.proofs.Gathering.{GathersFrom, from_one, more_parts_step}
 use Rattle.vt_parse.proofs.Rules.{bars_out, moved_on}
@@ -49,7 +49,7 @@ pub part_one : (n left : ℕ) (fresh : Bool) (s0 : Left) (e : Expr) (o m k : Lis
     → GathersFrom (with_parts e) after_part (part (opened n)) s0 (after, false) o k z
 part_one n left fresh s0 e o m k w z v after p g h a q =
     subst (λ y. GathersFrom (with_parts e) after_part (part (opened n)) s0 (y, false) o k z) (sym a)
-    (from_one after_part (part (opened n)) (part_piece (opened n) (has_room n) (brackets n)) refl z (λ vs i. more_parts_step e vs v w z q i) g
+    (from_one after_part (part (opened n)) (part_rule (opened n) (has_room n) (brackets n)) refl z (λ vs i. more_parts_step e vs v w z q i) g
     (as_one (opened n) left fresh (and_left (nat_lt 0 left) _ p) (λ a. Read a m k v) h))
 
 pub part_cold : (n left : ℕ) (fresh : Bool) (o : List Mark) → Takes n left o ≡ false → (t : Mark) (rest : List Mark) → o ≡ t ∷ rest → (part (opened n) (left, fresh)).begins (t ∷ []) → ⊥
@@ -57,14 +57,14 @@ unfolding part
 part_cold n zero fresh o p t rest e h = cc
 part_cold n (suc left) fresh o p t rest e h =
     (bars_out (PartStarts (has_room n)) {F = PartStarts (has_room n)} (included (PartStarts (has_room n))) (second (nat_lt 0 (suc left)) _ (lt-ltb 0 (suc left) (omega arith)) p)).bars t rest e
-    ((part_piece (opened n) (has_room n) (brackets n) (suc left, fresh)).law.opens.first t [] h)
+    ((part_rule (opened n) (has_room n) (brackets n) (suc left, fresh)).law.opens.first t [] h)
   where
     second : (a b : Bool) → a ≡ true → a && b ≡ false → b ≡ false
     second true b e p = p
     second false b e p = absurd (cc)
 
-pub comma_cold : (o : List Mark) (t : Mark) (rest : List Mark) → peeked_in (just words.Comma) o ≡ false → o ≡ t ∷ rest → In (just words.Comma) t → ⊥
-comma_cold o t rest p e h = (bars_out (just words.Comma) {F = just words.Comma} (included (just words.Comma)) p).bars t rest e h
+pub comma_cold : (o : List Mark) (t : Mark) (rest : List Mark) → peeked_in (just terminals.Comma) o ≡ false → o ≡ t ∷ rest → In (just terminals.Comma) t → ⊥
+comma_cold o t rest p e h = (bars_out (just terminals.Comma) {F = just terminals.Comma} (included (just terminals.Comma)) p).bars t rest e h
 
 pub labels_are : (s : Opened) (found : Arguments) {v : Arguments} {l k : Bool} {o n : List Mark} → k ≡ l → Read (mapped (gathered found) (many_from labels_begun (next_arg s) l)) o n v
     → Read (mapped (gathered found) (many_from labels_begun (next_arg s) k)) o n v

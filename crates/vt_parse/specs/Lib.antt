@@ -1,3 +1,2 @@
-pub mod Levels
-pub mod Parses
 pub mod Answers
+pub mod private

@@ -1,16 +1,18 @@
+//! Arguments, items and commands.
 ghost use Rattle.std.specs.Prelude.{◌≡◌, ◌++◌, nat_lt, true, false, suc};
 ghost use Rattle.vt_grammar.specs.Form.{many, many_from, mapped, optional};
 ghost use Rattle.vt_grammar.specs.Grammar.{arg, args, command, cond_form, expr, has_label, items, labelled_arg, labels_begun, next_arg, next_item, opened};
-ghost use Rattle.vt_parse.specs.Parses.{Parses, is_command};
+ghost use Rattle.vt_parse.specs.private.Parses.{Parses, is_command};
 ghost use Rattle.vt_grammar.specs.Trees.{gathered};
 
 use crate::parser::Parser;
+use sqlite_items::Boxed;
 use std::alloc::Global;
 use vt_build::{
-    Argument, Fault, add_argument, arguments_of, first_argument, first_item, has_label,
+    Argument, Fault, add_argument, add_item, arguments_of, first_argument, first_item, has_label,
     labels_begun, make_argument, make_command,
 };
-use vt_grammar::{Arguments, Word};
+use vt_grammar::{Arguments, Terminal};
 use vt_tree::{Expr, Exprs};
 
 impl<'a> Parser<'a> {
@@ -22,9 +24,9 @@ impl<'a> Parser<'a> {
         if room == 0 {
             return Err(Fault::Here);
         }
-        self.expect(Word::CallOpen)?;
+        self.expect(Terminal::CallOpen)?;
         let given = self.maybe_args(alloc, room - 1)?;
-        self.expect(Word::ParenClose)?;
+        self.expect(Terminal::ParenClose)?;
         Ok(arguments_of(alloc, given))
     }
 
@@ -36,7 +38,7 @@ impl<'a> Parser<'a> {
     ) -> Result<Option<Arguments>, Fault>
         ensures { Parses (optional (opened room).call) self.old self.new result }
     {
-        if self.opens(Word::CallOpen, room) {
+        if self.opens(Terminal::CallOpen, room) {
             let given = self.call(alloc, room)?;
             return Ok(Some(given));
         }
@@ -47,7 +49,7 @@ impl<'a> Parser<'a> {
     fn labelled_arg(&mut self, alloc: Global, room: u32) -> Result<Argument, Fault>
         ensures { Parses (labelled_arg (opened room)) self.old self.new result }
     {
-        let label = self.expect(Word::Label)?;
+        let label = self.expect(Terminal::Label)?;
         let value = self.expr(alloc, room)?;
         make_argument(alloc, label.bytes, value)
     }
@@ -60,7 +62,7 @@ impl<'a> Parser<'a> {
         if labels {
             return self.labelled_arg(alloc, room);
         }
-        if self.at(Word::Label) {
+        if self.at(Terminal::Label) {
             return self.labelled_arg(alloc, room);
         }
         let value = self.expr(alloc, room)?;
@@ -71,7 +73,7 @@ impl<'a> Parser<'a> {
     fn next_arg(&mut self, alloc: Global, room: u32, labels: bool) -> Result<Argument, Fault>
         ensures { Parses (next_arg (opened room) labels) self.old self.new result }
     {
-        self.expect(Word::Comma)?;
+        self.expect(Terminal::Comma)?;
         self.arg(alloc, room, labels)
     }
 
@@ -88,7 +90,7 @@ impl<'a> Parser<'a> {
     {
         let mut all = found;
         let mut begun = labels;
-        'more: while self.at(Word::Comma) {
+        'more: while self.at(Terminal::Comma) {
             let argument = self.next_arg(alloc, room, begun)?;
             begun = labels_begun(begun, &argument);
             add_argument(&mut all, argument)?;
@@ -118,10 +120,10 @@ impl<'a> Parser<'a> {
     }
 
     #[cycle(parser)]
-    fn next_item(&mut self, alloc: Global, room: u32) -> Result<Expr, Fault>
+    fn next_item(&mut self, alloc: Global, room: u32) -> Result<Boxed<Expr>, Fault>
         ensures { Parses (next_item (opened room)) self.old self.new result }
     {
-        self.expect(Word::Comma)?;
+        self.expect(Terminal::Comma)?;
         self.expr(alloc, room)
     }
 
@@ -131,9 +133,9 @@ impl<'a> Parser<'a> {
         ensures { Parses (mapped (λ more. found ++ more) (many (next_item (opened room)))) self.old self.new result }
     {
         let mut all = found;
-        'more: while self.at(Word::Comma) {
+        'more: while self.at(Terminal::Comma) {
             let item = self.next_item(alloc, room)?;
-            all.push(item)?;
+            add_item(&mut all, item)?;
         }
         Ok(all)
     }
@@ -159,18 +161,18 @@ impl<'a> Parser<'a> {
     }
 
     #[cycle(parser)]
-    fn command(&mut self, alloc: Global, room: u32) -> Result<Expr, Fault>
+    fn command(&mut self, alloc: Global, room: u32) -> Result<Boxed<Expr>, Fault>
         requires { is_command (nat_lt 0 room) self.old ≡ true }
         ensures { Parses (command (opened room)) self.old self.new result }
     {
-        let name = self.expect(Word::Name)?;
+        let name = self.expect(Terminal::Name)?;
         let given = self.args(alloc, room)?;
         make_command(alloc, name.bytes, given)
     }
 
     /// A command or an expression.
     #[cycle(parser)]
-    pub(crate) fn cond(&mut self, alloc: Global, room: u32) -> Result<Expr, Fault>
+    pub(crate) fn cond(&mut self, alloc: Global, room: u32) -> Result<Boxed<Expr>, Fault>
         ensures { Parses (cond_form (opened room)) self.old self.new result }
     {
         if self.is_command(room) {

@@ -1,19 +1,20 @@
+//! Expressions, level by level.
 ghost use Rattle.std.specs.Prelude.{◌≡◌, ◌++◌, nat_lt, true, false, suc};
 ghost use Rattle.vt_grammar.specs.Form.{many, many_from, mapped, optional};
 ghost use Rattle.vt_grammar.specs.Grammar.{chain, comp, dot, expr, link, literal, named, negated, negation, opened, part, parts_after, postfix, primary, signed, unary};
-ghost use Rattle.vt_parse.specs.Levels.{below, class_of, ops_of};
-ghost use Rattle.vt_parse.specs.Parses.{Parses};
+ghost use Rattle.vt_parse.specs.private.Levels.{below, class_of, ops_of};
+ghost use Rattle.vt_parse.specs.private.Parses.{Parses};
 ghost use Rattle.vt_grammar.specs.Trees.{with_parts};
 ghost use Rattle.vt_tree.specs.declared.expression.ChainKind.TheVariants as ChainKind;
 
 use crate::parser::Parser;
-use sqlite_items::Items;
+use sqlite_items::{Boxed, Items};
 use std::alloc::Global;
 use vt_build::{
     Class, Fault, is_bare_get, left_after, list_tree, make_chain, make_comparison, make_dot,
     make_link, make_literal, make_named, make_part, make_unary, wrapped,
 };
-use vt_grammar::{Part, Word};
+use vt_grammar::{Part, Terminal};
 use vt_tree::{Call, ChainKind, Expr, Link, Links};
 
 /// The most indexes and dots of one value.
@@ -36,7 +37,7 @@ fn class_of(kind: ChainKind) -> Class
 impl<'a> Parser<'a> {
     /// A command or an expression in parentheses.
     #[cycle(parser)]
-    pub(crate) fn parens(&mut self, alloc: Global, room: u32) -> Result<Expr, Fault>
+    pub(crate) fn parens(&mut self, alloc: Global, room: u32) -> Result<Boxed<Expr>, Fault>
         ensures { Parses (opened room).parens self.old self.new result }
     {
         if room == 0 {
@@ -44,12 +45,12 @@ impl<'a> Parser<'a> {
         }
         self.expect_class(Class::ParenOpen)?;
         let inner = self.cond(alloc, room - 1)?;
-        let inner = self.followed(inner, Word::ParenClose)?;
-        Ok(wrapped(inner))
+        let inner = self.followed(inner, Terminal::ParenClose)?;
+        wrapped(alloc, inner)
     }
 
     #[cycle(parser)]
-    fn list(&mut self, alloc: Global, room: u32) -> Result<Expr, Fault>
+    fn list(&mut self, alloc: Global, room: u32) -> Result<Boxed<Expr>, Fault>
         ensures { Parses (opened room).list self.old self.new result }
     {
         if room == 0 {
@@ -57,47 +58,47 @@ impl<'a> Parser<'a> {
         }
         self.expect_class(Class::ListOpen)?;
         let items = self.maybe_items(alloc, room - 1)?;
-        self.expect(Word::ListClose)?;
-        Ok(list_tree(alloc, items))
+        self.expect(Terminal::ListClose)?;
+        list_tree(alloc, items)
     }
 
     #[cycle(parser)]
-    fn index(&mut self, alloc: Global, room: u32) -> Result<Expr, Fault>
+    fn index(&mut self, alloc: Global, room: u32) -> Result<Boxed<Expr>, Fault>
         ensures { Parses (opened room).index self.old self.new result }
     {
         if room == 0 {
             return Err(Fault::Here);
         }
-        self.expect(Word::IndexOpen)?;
+        self.expect(Terminal::IndexOpen)?;
         let at = self.expr(alloc, room - 1)?;
-        self.followed(at, Word::ListClose)
+        self.followed(at, Terminal::ListClose)
     }
 
-    fn literal(&mut self, alloc: Global) -> Result<Expr, Fault>
+    fn literal(&mut self, alloc: Global) -> Result<Boxed<Expr>, Fault>
         ensures { Parses literal self.old self.new result }
     {
         let token = self.expect_class(Class::Literal)?;
-        make_literal(alloc, token.word, token.bytes)
+        make_literal(alloc, token.terminal, token.bytes)
     }
 
     /// A name, or a name and arguments in parentheses.
     #[cycle(parser)]
-    fn named(&mut self, alloc: Global, room: u32) -> Result<Expr, Fault>
+    fn named(&mut self, alloc: Global, room: u32) -> Result<Boxed<Expr>, Fault>
         ensures { Parses (named (opened room)) self.old self.new result }
     {
-        let name = self.expect(Word::Name)?;
+        let name = self.expect(Terminal::Name)?;
         let given = self.maybe_call(alloc, room)?;
         make_named(alloc, name.bytes, given)
     }
 
     #[cycle(parser)]
-    fn primary(&mut self, alloc: Global, room: u32) -> Result<Expr, Fault>
+    fn primary(&mut self, alloc: Global, room: u32) -> Result<Boxed<Expr>, Fault>
         ensures { Parses (primary (opened room)) self.old self.new result }
     {
         if self.at_class(Class::Literal) {
             return self.literal(alloc);
         }
-        if self.at(Word::Name) {
+        if self.at(Terminal::Name) {
             return self.named(alloc, room);
         }
         if self.at_class(Class::ParenOpen) {
@@ -110,8 +111,8 @@ impl<'a> Parser<'a> {
     fn dot(&mut self, alloc: Global, room: u32) -> Result<Call, Fault>
         ensures { Parses (dot (opened room)) self.old self.new result }
     {
-        self.expect(Word::Dot)?;
-        let name = self.expect(Word::Name)?;
+        self.expect(Terminal::Dot)?;
+        let name = self.expect(Terminal::Name)?;
         let given = self.maybe_call(alloc, room)?;
         let block = self.maybe_braces(alloc, room)?;
         make_dot(alloc, name.bytes, given, block)
@@ -122,7 +123,7 @@ impl<'a> Parser<'a> {
     fn part(&mut self, alloc: Global, room: u32) -> Result<Part, Fault>
         ensures { Parses (part (opened room) (1, false)) self.old self.new result }
     {
-        if self.at(Word::IndexOpen) {
+        if self.at(Terminal::IndexOpen) {
             let at = self.index(alloc, room)?;
             return Ok(Part::Index(at));
         }
@@ -132,7 +133,7 @@ impl<'a> Parser<'a> {
 
     /// The value with the indexes and dots that follow it.
     #[cycle(parser)]
-    fn parts(&mut self, alloc: Global, room: u32, value: Expr) -> Result<Expr, Fault>
+    fn parts(&mut self, alloc: Global, room: u32, value: Boxed<Expr>) -> Result<Boxed<Expr>, Fault>
         ensures { Parses (mapped (with_parts value) (parts_after (opened room) value)) self.old self.new result }
     {
         let mut whole = value;
@@ -148,7 +149,7 @@ impl<'a> Parser<'a> {
     }
 
     #[cycle(parser)]
-    fn postfix(&mut self, alloc: Global, room: u32) -> Result<Expr, Fault>
+    fn postfix(&mut self, alloc: Global, room: u32) -> Result<Boxed<Expr>, Fault>
         ensures { Parses (postfix (opened room)) self.old self.new result }
     {
         let first = self.primary(alloc, room)?;
@@ -156,16 +157,16 @@ impl<'a> Parser<'a> {
     }
 
     #[cycle(parser)]
-    fn signed(&mut self, alloc: Global, room: u32) -> Result<Expr, Fault>
+    fn signed(&mut self, alloc: Global, room: u32) -> Result<Boxed<Expr>, Fault>
         ensures { Parses (signed (opened room)) self.old self.new result }
     {
         let sign = self.expect_class(Class::Sign)?;
         let of = self.postfix(alloc, room)?;
-        make_unary(alloc, sign.word, of)
+        make_unary(alloc, sign.terminal, of)
     }
 
     #[cycle(parser)]
-    fn unary(&mut self, alloc: Global, room: u32) -> Result<Expr, Fault>
+    fn unary(&mut self, alloc: Global, room: u32) -> Result<Boxed<Expr>, Fault>
         ensures { Parses (unary (opened room)) self.old self.new result }
     {
         if self.at_class(Class::Sign) {
@@ -176,7 +177,7 @@ impl<'a> Parser<'a> {
 
     /// What stands between the operators of a level.
     #[cycle(parser)]
-    fn below(&mut self, alloc: Global, room: u32, kind: ChainKind) -> Result<Expr, Fault>
+    fn below(&mut self, alloc: Global, room: u32, kind: ChainKind) -> Result<Boxed<Expr>, Fault>
         ensures { Parses (below kind (opened room)) self.old self.new result }
     {
         match kind {
@@ -196,7 +197,7 @@ impl<'a> Parser<'a> {
     {
         let op = self.expect_class(class_of(kind))?;
         let part = self.below(alloc, room, kind)?;
-        Ok(make_link(op.word, part))
+        Ok(make_link(op.terminal, part))
     }
 
     #[cycle(parser)]
@@ -213,7 +214,7 @@ impl<'a> Parser<'a> {
 
     /// The parts of a level with operators between them.
     #[cycle(parser)]
-    fn chain(&mut self, alloc: Global, room: u32, kind: ChainKind) -> Result<Expr, Fault>
+    fn chain(&mut self, alloc: Global, room: u32, kind: ChainKind) -> Result<Boxed<Expr>, Fault>
         ensures { Parses (chain kind (ops_of kind) (below kind (opened room))) self.old self.new result }
     {
         let first = self.below(alloc, room, kind)?;
@@ -234,7 +235,7 @@ impl<'a> Parser<'a> {
 
     /// At most one comparison.
     #[cycle(parser)]
-    fn comp(&mut self, alloc: Global, room: u32) -> Result<Expr, Fault>
+    fn comp(&mut self, alloc: Global, room: u32) -> Result<Boxed<Expr>, Fault>
         ensures { Parses (comp (opened room)) self.old self.new result }
     {
         let first = self.chain(alloc, room, ChainKind::Sum)?;
@@ -243,26 +244,26 @@ impl<'a> Parser<'a> {
     }
 
     #[cycle(parser)]
-    fn negated(&mut self, alloc: Global, room: u32) -> Result<Expr, Fault>
+    fn negated(&mut self, alloc: Global, room: u32) -> Result<Boxed<Expr>, Fault>
         ensures { Parses (negated (opened room)) self.old self.new result }
     {
-        let sign = self.expect(Word::Not)?;
+        let sign = self.expect(Terminal::Not)?;
         let of = self.chain(alloc, room, ChainKind::Disj)?;
-        make_unary(alloc, sign.word, of)
+        make_unary(alloc, sign.terminal, of)
     }
 
     #[cycle(parser)]
-    fn negation(&mut self, alloc: Global, room: u32) -> Result<Expr, Fault>
+    fn negation(&mut self, alloc: Global, room: u32) -> Result<Boxed<Expr>, Fault>
         ensures { Parses (negation (opened room)) self.old self.new result }
     {
-        if self.at(Word::Not) {
+        if self.at(Terminal::Not) {
             return self.negated(alloc, room);
         }
         self.chain(alloc, room, ChainKind::Disj)
     }
 
     #[cycle(parser)]
-    pub(crate) fn expr(&mut self, alloc: Global, room: u32) -> Result<Expr, Fault>
+    pub(crate) fn expr(&mut self, alloc: Global, room: u32) -> Result<Boxed<Expr>, Fault>
         ensures { Parses (expr (opened room)) self.old self.new result }
     {
         self.chain(alloc, room, ChainKind::Expr)

@@ -3,17 +3,13 @@
 
 mod arguments;
 mod expressions;
+mod laws;
 mod parser;
 mod seen;
-#[cfg(test)]
-mod shape;
 mod statements;
 mod syntax;
-#[cfg(test)]
-mod tests;
-mod texts;
 
-ghost use Rattle.vt_parse.specs.Parses.{Parses};
+ghost use Rattle.vt_parse.specs.private.Parses.{Parses};
 
+pub use laws::lexed_law;
 pub use syntax::{SyntaxFault, parse};
-pub use texts::lexed_law;

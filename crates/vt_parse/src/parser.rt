@@ -1,21 +1,24 @@
+//! The tokens that are left of a text, and what stands first in them.
 ghost use Rattle.std.specs.Prelude.{◌≡◌, ℕ, ◌∷◌, ◌<◌, ◌+◌, ◌^◌, length, Some};
-ghost use Rattle.vt_grammar.specs.Grammar.{among, first_line, word as word_of_grammar};
+ghost use Rattle.vt_grammar.specs.Grammar.{among, first_line, terminal as terminal_of_grammar};
 ghost use Rattle.vt_grammar.specs.Values.{HasValue};
 ghost use Rattle.std.specs.Prelude.{IfOk};
 ghost use Rattle.vt_grammar.specs.Form.{mapped};
 ghost use Rattle.vt_grammar.specs.Marks.{marked};
 ghost use Rattle.vt_grammar.specs.Tokens.{AreTokens, spelled};
-ghost use Rattle.vt_parse.specs.Parses.{Parses, ParsesAs, is_assign, is_command, leads_second, peeked, peeked_second, sets_second, peeked_line, seen, peeked_in};
-ghost use Rattle.vt_grammar.specs.Sets.{ArgStarts, ExprStarts, PartStarts, StmtStarts, just, with_room};
+ghost use Rattle.vt_parse.specs.private.Parses.{Parses, is_assign, is_command, leads_second, peeked, peeked_second, sets_second, peeked_line, peeked_in};
+ghost use Rattle.vt_grammar.specs.private.Sets.{ArgStarts, ExprStarts, PartStarts, StmtStarts, just, with_room};
 ghost use Rattle.std.specs.Prelude.{◌&&◌, nat_lt};
-ghost use Rattle.vt_build.specs.Classes.{class_words};
+ghost use Rattle.vt_build.specs.private.Classes.{class_terminals};
 
 use crate::seen::Seen;
+use sqlite_items::Boxed;
 use std::marker::Model;
 use vt_build::{
-    Class, Fault, is_of, leads, number_with, same, starts_arg, starts_expr, starts_stmt, word_at,
+    Class, Fault, is_of, leads, number_with, same, starts_arg, starts_expr, starts_stmt,
+    terminal_at,
 };
-use vt_grammar::Word;
+use vt_grammar::Terminal;
 use vt_lex::Token;
 use vt_tree::Expr;
 
@@ -62,12 +65,12 @@ impl<'a> Parser<'a> {
         }
     }
 
-    /// The word of the token that stands here.
-    fn peek(&self) -> Option<Word>
+    /// The terminal of the token that stands here.
+    fn peek(&self) -> Option<Terminal>
         ensures { result ≡ peeked self.now }
     {
         match self.rest {
-            [t, ..] => Some(word_at(
+            [t, ..] => Some(terminal_at(
                 t.kind,
                 t.gap,
                 t.tight,
@@ -77,14 +80,14 @@ impl<'a> Parser<'a> {
         }
     }
 
-    /// Whether a blank stands before the second token from here, and its word.
-    fn peek_second(&self) -> Option<(bool, Word)>
+    /// Whether a blank stands before the second token from here, and its terminal.
+    fn peek_second(&self) -> Option<(bool, Terminal)>
         ensures { result ≡ peeked_second self.now }
     {
         match self.rest {
             [_, t, ..] => Some((
                 t.gap,
-                word_at(
+                terminal_at(
                     t.kind,
                     t.gap,
                     t.tight,
@@ -109,30 +112,30 @@ impl<'a> Parser<'a> {
     pub(crate) fn is_command(&self, room: u32) -> bool
         ensures { result ≡ is_command (nat_lt 0 room) self.now }
     {
-        self.at(Word::Name) && leads_second(room, self.peek_second())
+        self.at(Terminal::Name) && leads_second(room, self.peek_second())
     }
 
     /// Whether an assignment begins here.
     pub(crate) fn is_assign(&self) -> bool
         ensures { result ≡ is_assign self.now }
     {
-        self.at(Word::Name) && sets_second(self.peek_second())
+        self.at(Terminal::Name) && sets_second(self.peek_second())
     }
 
     /// The token that stands here, which is passed.
     fn bump(&mut self) -> Seen<'a>
         requires { 0 < length self.old }
-        ensures passed { self.old ≡ seen result ∷ self.new }
-        ensures value { HasValue result.word result.bytes.now }
+        ensures passed { self.old ≡ result ∷ self.new }
+        ensures value { HasValue result.terminal result.bytes }
     {
         match self.rest {
             [t, rest @ ..] => {
                 let bytes = &self.text[t.from as usize..t.to as usize];
-                let word = word_at(t.kind, t.gap, t.tight, bytes);
-                self.blocks = number_with(self.blocks, word);
+                let terminal = terminal_at(t.kind, t.gap, t.tight, bytes);
+                self.blocks = number_with(self.blocks, terminal);
                 self.rest = rest;
                 Seen {
-                    word,
+                    terminal,
                     line: t.line,
                     gap: t.gap,
                     bytes,
@@ -143,19 +146,19 @@ impl<'a> Parser<'a> {
         }
     }
 
-    /// Whether a token of this word stands here.
-    pub(crate) fn at(&self, word: Word) -> bool
-        ensures { result ≡ peeked_in (just word) self.now }
+    /// Whether a token of this terminal stands here.
+    pub(crate) fn at(&self, terminal: Terminal) -> bool
+        ensures { result ≡ peeked_in (just terminal) self.now }
     {
         match self.peek() {
-            Some(here) => same(word, here),
+            Some(here) => same(terminal, here),
             None => false,
         }
     }
 
-    /// Whether a token of a word of this class stands here.
+    /// Whether a token of a terminal of this class stands here.
     pub(crate) fn at_class(&self, class: Class) -> bool
-        ensures { result ≡ peeked_in (class_words class) self.now }
+        ensures { result ≡ peeked_in (class_terminals class) self.now }
     {
         match self.peek() {
             Some(here) => is_of(class, here),
@@ -163,12 +166,12 @@ impl<'a> Parser<'a> {
         }
     }
 
-    /// Whether a token of this word stands here, and something more may be opened.
-    pub(crate) fn opens(&self, word: Word, room: u32) -> bool
-        ensures { result ≡ peeked_in (with_room (nat_lt 0 room) (just word)) self.now }
+    /// Whether a token of this terminal stands here, and something more may be opened.
+    pub(crate) fn opens(&self, terminal: Terminal, room: u32) -> bool
+        ensures { result ≡ peeked_in (with_room (nat_lt 0 room) (just terminal)) self.now }
     {
         match self.peek() {
-            Some(here) => same(word, here) && 0 < room,
+            Some(here) => same(terminal, here) && 0 < room,
             None => false,
         }
     }
@@ -215,29 +218,33 @@ impl<'a> Parser<'a> {
         ensures { result ≡ peeked_in (PartStarts (nat_lt 0 room)) self.now }
     {
         match self.peek() {
-            Some(Word::Dot) => true,
-            Some(Word::IndexOpen) => 0 < room,
+            Some(Terminal::Dot) => true,
+            Some(Terminal::IndexOpen) => 0 < room,
             Some(_) => false,
             None => false,
         }
     }
 
-    /// The token, where it has this word.
-    pub(crate) fn expect(&mut self, word: Word) -> Result<Seen<'a>, Fault>
-        ensures { ParsesAs seen (word_of_grammar word) self.old self.new result }
+    /// The token, where it has this terminal.
+    pub(crate) fn expect(&mut self, terminal: Terminal) -> Result<Seen<'a>, Fault>
+        ensures { Parses (terminal_of_grammar terminal) self.old self.new result }
     {
-        if self.at(word) {
+        if self.at(terminal) {
             Ok(self.bump())
         } else {
             Err(Fault::Here)
         }
     }
 
-    /// The value, where a token of this word follows it.
-    pub(crate) fn followed(&mut self, value: Expr, word: Word) -> Result<Expr, Fault>
-        ensures { Parses (mapped (λ _. value) (word_of_grammar word)) self.old self.new result }
+    /// The value, where a token of this terminal follows it.
+    pub(crate) fn followed(
+        &mut self,
+        value: Boxed<Expr>,
+        terminal: Terminal,
+    ) -> Result<Boxed<Expr>, Fault>
+        ensures { Parses (mapped (λ _. value) (terminal_of_grammar terminal)) self.old self.new result }
     {
-        if self.at(word) {
+        if self.at(terminal) {
             self.bump();
             Ok(value)
         } else {
@@ -245,10 +252,10 @@ impl<'a> Parser<'a> {
         }
     }
 
-    /// The token, where its word is of this class.
+    /// The token, where its terminal is of this class.
     pub(crate) fn expect_class(&mut self, class: Class) -> Result<Seen<'a>, Fault>
-        ensures token { ParsesAs seen (among (class_words class)) self.old self.new result }
-        ensures value { IfOk result (λ token. HasValue token.word token.bytes.now) }
+        ensures token { Parses (among (class_terminals class)) self.old self.new result }
+        ensures value { IfOk result (λ token. HasValue token.terminal token.bytes) }
     {
         if self.at_class(class) {
             Ok(self.bump())
@@ -258,20 +265,20 @@ impl<'a> Parser<'a> {
     }
 }
 
-fn leads_second(room: u32, second: Option<(bool, Word)>) -> bool
+fn leads_second(room: u32, second: Option<(bool, Terminal)>) -> bool
     ensures { result ≡ leads_second (nat_lt 0 room) second }
 {
     match second {
-        Some((gap, word)) => gap && leads(word) && starts_arg(room, word),
+        Some((gap, terminal)) => gap && leads(terminal) && starts_arg(room, terminal),
         None => false,
     }
 }
 
-fn sets_second(second: Option<(bool, Word)>) -> bool
+fn sets_second(second: Option<(bool, Terminal)>) -> bool
     ensures { result ≡ sets_second second }
 {
     match second {
-        Some((_, word)) => is_of(Class::Set, word),
+        Some((_, terminal)) => is_of(Class::Set, terminal),
         None => false,
     }
 }

@@ -1,20 +1,22 @@
+//! Statements, blocks and branches.
 ghost use Rattle.std.specs.Prelude.{◌≡◌, ◌++◌, nat_lt, true, false, suc};
 ghost use Rattle.vt_grammar.specs.Form.{many, many_from, mapped, next, optional, either};
-ghost use Rattle.vt_grammar.specs.Grammar.{assign, block, block_where, elsif, line, modifier, names_of, next_param, opened, otherwise, params, rhs, simple, stmt, word};
-ghost use Rattle.vt_parse.specs.Parses.{Parses, ParsesAs, is_assign, seen};
+ghost use Rattle.vt_grammar.specs.Grammar.{assign, block, block_where, elsif, line, modifier, names_of, next_param, opened, otherwise, params, rhs, simple, stmt, terminal};
+ghost use Rattle.vt_parse.specs.private.Parses.{Parses, is_assign};
 ghost use Rattle.vt_grammar.specs.Trees.{present};
-ghost use Rattle.vt_grammar.specs.declared.words.Word.TheVariants as Word;
+ghost use Rattle.vt_grammar.specs.declared.terminals.Terminal.TheVariants as Terminal;
 ghost use Rattle.vt_tree.specs.declared.statement.Simple.TheVariants as simples;
 
 use crate::parser::Parser;
 use crate::seen::Seen;
-use sqlite_items::Items;
+use sqlite_items::Boxed;
 use std::alloc::Global;
 use vt_build::{
     Class, Fault, add_present, first_arm, first_name, first_stmts, is_unless, make_arm,
-    make_assign, make_block, make_stmt, make_with_block, name_of, takes_block,
+    make_assign, make_block, make_iff, make_stmt, make_value, make_with_block, name_of,
+    takes_block,
 };
-use vt_grammar::Word;
+use vt_grammar::Terminal;
 use vt_tree::{Arm, Arms, Block, Expr, Names, Simple, Stmt, Stmts};
 
 impl<'a> Parser<'a> {
@@ -25,7 +27,7 @@ impl<'a> Parser<'a> {
         if !takes {
             return Ok(None);
         }
-        if self.opens(Word::Do, room) {
+        if self.opens(Terminal::Do, room) {
             let block = self.doblock(alloc, room)?;
             return Ok(Some(block));
         }
@@ -34,7 +36,7 @@ impl<'a> Parser<'a> {
 
     /// A command or an expression, and a `do` block where the tree before it takes one.
     #[cycle(parser)]
-    fn rhs(&mut self, alloc: Global, room: u32) -> Result<Expr, Fault>
+    fn rhs(&mut self, alloc: Global, room: u32) -> Result<Boxed<Expr>, Fault>
         ensures { Parses (rhs (opened room)) self.old self.new result }
     {
         let value = self.cond(alloc, room)?;
@@ -44,30 +46,30 @@ impl<'a> Parser<'a> {
     }
 
     #[cycle(parser)]
-    fn assign(&mut self, alloc: Global, room: u32) -> Result<Simple, Fault>
+    fn assign(&mut self, alloc: Global, room: u32) -> Result<Boxed<Simple>, Fault>
         requires { is_assign self.old ≡ true }
         ensures { Parses (assign (opened room)) self.old self.new result }
     {
-        let name = self.expect(Word::Name)?;
+        let name = self.expect(Terminal::Name)?;
         let op = self.expect_class(Class::Set)?;
         let value = self.rhs(alloc, room)?;
-        make_assign(alloc, name.bytes, op.word, value)
+        make_assign(alloc, name.bytes, op.terminal, value)
     }
 
     /// An assignment or a value.
     #[cycle(parser)]
-    fn plain_simple(&mut self, alloc: Global, room: u32) -> Result<Simple, Fault>
+    fn plain_simple(&mut self, alloc: Global, room: u32) -> Result<Boxed<Simple>, Fault>
         ensures { Parses (either (assign (opened room)) (mapped (λ e. simples.Value e) (rhs (opened room)))) self.old self.new result }
     {
         if self.is_assign() {
             return self.assign(alloc, room);
         }
         let value = self.rhs(alloc, room)?;
-        Ok(Simple::Value(value))
+        make_value(alloc, value)
     }
 
     #[cycle(parser)]
-    fn simple(&mut self, alloc: Global, room: u32) -> Result<Simple, Fault>
+    fn simple(&mut self, alloc: Global, room: u32) -> Result<Boxed<Simple>, Fault>
         ensures { Parses (simple (opened room)) self.old self.new result }
     {
         if self.at_class(Class::Condition) {
@@ -78,16 +80,20 @@ impl<'a> Parser<'a> {
 
     /// `if` or `unless` after a statement: whether it is `unless`, and the condition.
     #[cycle(parser)]
-    fn modifier(&mut self, alloc: Global, room: u32) -> Result<(bool, Expr), Fault>
+    fn modifier(&mut self, alloc: Global, room: u32) -> Result<(bool, Boxed<Expr>), Fault>
         ensures { Parses (modifier (opened room)) self.old self.new result }
     {
         let token = self.expect_class(Class::Condition)?;
         let cond = self.cond(alloc, room)?;
-        Ok((is_unless(token.word), cond))
+        Ok((is_unless(token.terminal), cond))
     }
 
     #[cycle(parser)]
-    fn maybe_modifier(&mut self, alloc: Global, room: u32) -> Result<Option<(bool, Expr)>, Fault>
+    fn maybe_modifier(
+        &mut self,
+        alloc: Global,
+        room: u32,
+    ) -> Result<Option<(bool, Boxed<Expr>)>, Fault>
         ensures { Parses (optional (modifier (opened room))) self.old self.new result }
     {
         if self.at_class(Class::Condition) {
@@ -123,7 +129,7 @@ impl<'a> Parser<'a> {
     fn next_line(&mut self, alloc: Global, room: u32) -> Result<Option<Stmt>, Fault>
         ensures { Parses (line (opened room)) self.old self.new result }
     {
-        self.expect(Word::Newline)?;
+        self.expect(Terminal::Newline)?;
         self.maybe_stmt(alloc, room)
     }
 
@@ -133,7 +139,7 @@ impl<'a> Parser<'a> {
         ensures { Parses (mapped (λ more. found ++ present more) (many (line (opened room)))) self.old self.new result }
     {
         let mut all = found;
-        'lines: while self.at(Word::Newline) {
+        'lines: while self.at(Terminal::Newline) {
             let next = self.next_line(alloc, room)?;
             add_present(&mut all, next)?;
         }
@@ -151,10 +157,10 @@ impl<'a> Parser<'a> {
     }
 
     fn next_param(&mut self) -> Result<Seen<'a>, Fault>
-        ensures { ParsesAs seen next_param self.old self.new result }
+        ensures { Parses next_param self.old self.new result }
     {
-        self.expect(Word::Comma)?;
-        self.expect(Word::Name)
+        self.expect(Terminal::Comma)?;
+        self.expect(Terminal::Name)
     }
 
     /// The parameters after those that were found.
@@ -162,7 +168,7 @@ impl<'a> Parser<'a> {
         ensures { Parses (mapped (λ more. found ++ names_of more) (many next_param)) self.old self.new result }
     {
         let mut all = found;
-        'more: while self.at(Word::Comma) {
+        'more: while self.at(Terminal::Comma) {
             let param = self.next_param()?;
             let name = name_of(alloc, param.bytes)?;
             all.push(name)?;
@@ -173,18 +179,18 @@ impl<'a> Parser<'a> {
     fn params(&mut self, alloc: Global) -> Result<Names, Fault>
         ensures { Parses params self.old self.new result }
     {
-        self.expect(Word::Bar)?;
-        let first = self.expect(Word::Name)?;
+        self.expect(Terminal::Bar)?;
+        let first = self.expect(Terminal::Name)?;
         let found = first_name(alloc, first.bytes)?;
         let names = self.more_params(alloc, found)?;
-        self.expect(Word::Bar)?;
+        self.expect(Terminal::Bar)?;
         Ok(names)
     }
 
     fn maybe_params(&mut self, alloc: Global) -> Result<Option<Names>, Fault>
         ensures { Parses (optional params) self.old self.new result }
     {
-        if self.at(Word::Bar) {
+        if self.at(Terminal::Bar) {
             let names = self.params(alloc)?;
             return Ok(Some(names));
         }
@@ -198,10 +204,10 @@ impl<'a> Parser<'a> {
         if room == 0 {
             return Err(Fault::Here);
         }
-        let opening = self.expect(Word::BraceOpen)?;
+        let opening = self.expect(Terminal::BraceOpen)?;
         let params = self.maybe_params(alloc)?;
         let stmts = self.block(alloc, room - 1)?;
-        self.expect(Word::BraceClose)?;
+        self.expect(Terminal::BraceClose)?;
         Ok(make_block(alloc, opening.number, params, stmts))
     }
 
@@ -209,7 +215,7 @@ impl<'a> Parser<'a> {
     pub(crate) fn maybe_braces(&mut self, alloc: Global, room: u32) -> Result<Option<Block>, Fault>
         ensures { Parses (optional (opened room).braces) self.old self.new result }
     {
-        if self.opens(Word::BraceOpen, room) {
+        if self.opens(Terminal::BraceOpen, room) {
             let block = self.braces(alloc, room)?;
             return Ok(Some(block));
         }
@@ -223,11 +229,11 @@ impl<'a> Parser<'a> {
         if room == 0 {
             return Err(Fault::Here);
         }
-        let opening = self.expect(Word::Do)?;
+        let opening = self.expect(Terminal::Do)?;
         let params = self.maybe_params(alloc)?;
-        self.expect(Word::Newline)?;
+        self.expect(Terminal::Newline)?;
         let stmts = self.block(alloc, room - 1)?;
-        self.expect(Word::End)?;
+        self.expect(Terminal::End)?;
         Ok(make_block(alloc, opening.number, params, stmts))
     }
 
@@ -235,9 +241,9 @@ impl<'a> Parser<'a> {
     fn elsif(&mut self, alloc: Global, room: u32) -> Result<Arm, Fault>
         ensures { Parses (elsif (opened room)) self.old self.new result }
     {
-        self.expect(Word::Elsif)?;
+        self.expect(Terminal::Elsif)?;
         let cond = self.cond(alloc, room)?;
-        let cond = self.followed(cond, Word::Newline)?;
+        let cond = self.followed(cond, Terminal::Newline)?;
         let stmts = self.block(alloc, room);
         make_arm(false, cond, stmts)
     }
@@ -248,7 +254,7 @@ impl<'a> Parser<'a> {
         ensures { Parses (mapped (λ more. found ++ more) (many (elsif (opened room)))) self.old self.new result }
     {
         let mut all = found;
-        'arms: while self.at(Word::Elsif) {
+        'arms: while self.at(Terminal::Elsif) {
             let arm = self.elsif(alloc, room)?;
             all.push(arm)?;
         }
@@ -259,7 +265,7 @@ impl<'a> Parser<'a> {
     fn otherwise(&mut self, alloc: Global, room: u32) -> Result<Stmts, Fault>
         ensures { Parses (otherwise (opened room)) self.old self.new result }
     {
-        self.expect(Word::Else)?;
+        self.expect(Terminal::Else)?;
         self.block(alloc, room)
     }
 
@@ -267,7 +273,7 @@ impl<'a> Parser<'a> {
     fn maybe_otherwise(&mut self, alloc: Global, room: u32) -> Result<Option<Stmts>, Fault>
         ensures { Parses (optional (otherwise (opened room))) self.old self.new result }
     {
-        if self.at(Word::Else) {
+        if self.at(Terminal::Else) {
             let stmts = self.otherwise(alloc, room)?;
             return Ok(Some(stmts));
         }
@@ -276,7 +282,7 @@ impl<'a> Parser<'a> {
 
     /// `if` or `unless` with its branches.
     #[cycle(parser)]
-    fn iff(&mut self, alloc: Global, room: u32) -> Result<Simple, Fault>
+    fn iff(&mut self, alloc: Global, room: u32) -> Result<Boxed<Simple>, Fault>
         ensures { Parses (opened room).iff self.old self.new result }
     {
         if room == 0 {
@@ -284,21 +290,21 @@ impl<'a> Parser<'a> {
         }
         let opening = self.expect_class(Class::Condition)?;
         let cond = self.cond(alloc, room - 1)?;
-        let cond = self.followed(cond, Word::Newline)?;
+        let cond = self.followed(cond, Terminal::Newline)?;
         let stmts = self.block(alloc, room - 1);
-        let first = make_arm(is_unless(opening.word), cond, stmts)?;
+        let first = make_arm(is_unless(opening.terminal), cond, stmts)?;
         let found = first_arm(alloc, first)?;
         self.branches(alloc, room - 1, found)
     }
 
     /// The branches after those that were found, and the `end`.
     #[cycle(parser)]
-    fn branches(&mut self, alloc: Global, room: u32, found: Arms) -> Result<Simple, Fault>
-        ensures { Parses (mapped (λ rest. simples.Iff (found ++ rest.0) rest.1.0) (next (many (elsif (opened room))) (λ _. next (optional (otherwise (opened room))) (λ _. word Word.End)))) self.old self.new result }
+    fn branches(&mut self, alloc: Global, room: u32, found: Arms) -> Result<Boxed<Simple>, Fault>
+        ensures { Parses (mapped (λ rest. simples.Iff (found ++ rest.0) rest.1.0) (next (many (elsif (opened room))) (λ _. next (optional (otherwise (opened room))) (λ _. terminal Terminal.End)))) self.old self.new result }
     {
         let arms = self.elsifs(alloc, room, found)?;
         let other = self.maybe_otherwise(alloc, room)?;
-        self.expect(Word::End)?;
-        Ok(Simple::Iff { arms, other })
+        self.expect(Terminal::End)?;
+        make_iff(alloc, arms, other)
     }
 }

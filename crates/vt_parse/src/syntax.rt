@@ -1,5 +1,7 @@
+//! The call that parses a text, and its fault.
 ghost use Rattle.std.specs.Prelude.{◌≡◌, ◌<◌, ◌^◌, IfErr, IfOk, None, length};
-ghost use Rattle.vt_parse.specs.Answers.{Refused, end_line};
+ghost use Rattle.vt_parse.specs.Answers.{Refused};
+ghost use Rattle.vt_parse.specs.private.Ends.{end_line};
 ghost use Rattle.vt_grammar.specs.Tokens.{AreTokens, spelled};
 ghost use Rattle.vt_grammar.specs.Text.{Reads};
 ghost use Rattle.vt_grammar.specs.Trees.{block_tree};

@@ -1,10 +1,10 @@
 -- The path and the pattern of bytes, as functions, are what is written.
 use Rattle.std.proofs.Common.{◌≡◌, ◌↔◌, ℕ, List, Some, None, sym, ap, ◌∙◌, subst, refl}
-use Rattle.vt_path.specs.Decision.{Decision, holds, fails}
+use Rattle.vt_frac.proofs.Decision.{Decision, holds, fails}
 use Rattle.vt_path.specs.Path.{IsPath, IsPathText, path_text}
-use Rattle.vt_path.specs.PathDecided.{path_decided, path_by, path_of, IsPathWhereWritten, IsNoneWhereNoPath}
+use Rattle.vt_path.proofs.PathDecided.{path_decided, path_by, path_of, IsPathWhereWritten, IsNoneWhereNoPath}
 use Rattle.vt_path.specs.Pattern.{IsPattern, IsPatternText, pattern_text}
-use Rattle.vt_path.specs.PatternDecided.{pattern_decided, pattern_by, pattern_of, IsPatternWhereWritten, IsNoneWhereNoPattern}
+use Rattle.vt_path.proofs.PatternDecided.{pattern_decided, pattern_by, pattern_of, IsPatternWhereWritten, IsNoneWhereNoPattern}
 use Rattle.vt_path.specs.declared.pattern.Segment.{Segment}
 use Rattle.vt_path.proofs.OneText.{one_path, one_pattern}
 

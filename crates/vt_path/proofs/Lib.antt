@@ -1,8 +1,12 @@
 pub mod ByteLemmas
+pub mod TextsDecided
+pub mod PathDecided
+pub mod PatternDecided
 pub mod DecidedLemmas
 pub mod Lists
+pub mod NameLemmas
 pub mod PathSteps
-pub mod Fronts
+pub mod Prefixes
 pub mod PatternNext
 pub mod PatternSteps
 pub mod PatternInside
@@ -10,7 +14,7 @@ pub mod PatternAlternatives
 pub mod PatternEnds
 pub mod HoldsLemmas
 pub mod MarkLemmas
-pub mod KeptLemmas
 pub mod LiteralLemmas
+pub mod KeptLemmas
 pub mod OneText
 pub mod AnyOfLemmas

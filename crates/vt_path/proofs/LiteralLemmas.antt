@@ -1,22 +1,25 @@
+-- Patterns that stand for their bytes, and the pattern of a name.
 use Rattle.std.proofs.Common.{◌≡◌, ℕ, ◌+◌, ◌<◌, ◌≤◌, List, [], ◌∷◌, ◌++◌, length, refl, sym, ◌∙◌, ap, subst, inl, inr, ◌⊎◌, arith, append_assoc, lit≤, lit<, get_or, take, ◌↔◌, Bool, true, false}
 use Rattle.std.specs.List.{All, AllByRecursion, flat_map}
-use Rattle.std.specs.Prelude.{codes}
+use Rattle.std.specs.Prelude.{codes, IsTrue}
 use Rattle.std.specs.Bool.{MatchBool}
 use Rattle.std.proofs.lemmas.List.{length-map, append-nil, take_more, length-take-le}
 use Rattle.std.proofs.lemmas.List.Elements.{All-cons, All-weaker, All-map, All-from_recursion}
 use Rattle.std.proofs.lemmas.Grind.{flat_map-append}
 use Rattle.std.proofs.Math.Logic.{∥∥₁_map}
+use Rattle.vt_frac.specs.Names.{is_symbol_name}
 use Rattle.vt_path.specs.AnyOf.{any_of_name, any_of_text}
 use Rattle.vt_path.specs.Byte.{IsPathByte}
 use Rattle.vt_path.specs.Path.{IsPath, IsSegment}
 use Rattle.vt_path.specs.Pattern.{IsPattern, IsPatternSegment, IsPart, IsWord, AreParts, parts_text, pattern_text, names_text}
 use Rattle.vt_path.specs.Match.{Matches, MatchesBytes, MatchesSegments, byte_parts, literal_segment, literal_of, is_inner}
-use Rattle.vt_path.specs.Inner.{IsInner, IsSymbolName, IsNameByte}
+use Rattle.vt_path.specs.Inner.{IsInner}
 use Rattle.vt_path.specs.Kept.{IsKeptPath}
 use Rattle.vt_path.specs.KeptPattern.{IsKeptPattern}
 use Rattle.vt_path.specs.declared.pattern.Segment.{Segment}
 use Rattle.vt_path.specs.declared.pattern.Segment.TheVariants.{Parts}
 use Rattle.vt_path.specs.declared.pattern.Part.TheVariants.{Byte, AnyBytes, Alternatives}
+use Rattle.vt_path.proofs.NameLemmas.{symbol_segment}
 
 -- parts that are bytes are written as these
 pub parts_text-bytes : (bytes : List ℕ) → parts_text (byte_parts bytes) ≡ bytes
@@ -103,24 +106,6 @@ literal_alone path other = go (is_inner other) refl where
   go true e = rw e (λ h. sym (literal_same path other h), λ h. ap literal_of (sym h))
   go false e = rw e (segments_match path other)
 
-name_byte : (b : ℕ) → IsNameByte b → IsPathByte b
-unfolding IsPathByte
-name_byte b (inl (inl h)) = inr (inl h)
-name_byte b (inl (inr (inl h))) = inr (inr (inl h))
-name_byte b (inl (inr (inr h))) = inr (inr (inr (inl h)))
-name_byte b (inr h) = inl (h.0, omega arith)
-
--- the name of a symbol is a segment
-pub symbol_segment : (name : List ℕ) → IsSymbolName name → IsSegment name
-symbol_segment name h =
-    let n : length name ≡ length (h.first ∷ h.rest) = ap length h.whole in
-    record {
-      nonempty = omega arith;
-      short = h.short;
-      bytes = (let all : All IsPathByte (h.first ∷ h.rest) = All-cons IsPathByte h.first h.rest (name_byte h.first (inl h.start)) (All-weaker IsNameByte IsPathByte name_byte h.rest h.bytes) in
-          subst (All IsPathByte) (sym h.whole) all);
-    }
-
 letter : (b : ℕ) → 97 ≤ b → b ≤ 122 → IsPathByte b
 unfolding IsPathByte
 letter b low high = inr (inr (inl (low, high)))
@@ -169,7 +154,7 @@ kinds_part = record {
   not_any = λ e. let z : Alternatives kinds ∷ [] ≡ AnyBytes ∷ AnyBytes ∷ [] = e in cc;
 }
 
-pub any_of_good : (name : List ℕ) → IsSymbolName name → IsPattern (any_of_name name)
+pub any_of_good : (name : List ℕ) → IsTrue (is_symbol_name name) → IsPattern (any_of_name name)
 unfolding kinds
 any_of_good name symbol = record {
   nonempty = lit< tt;

@@ -5,7 +5,7 @@ use Rattle.std.proofs.lemmas.Bool.Decides.{Decides-eqb}
 use Rattle.std.proofs.lemmas.Slice.Eq.{starts_is}
 use Rattle.std.specs.Cmp.Lexicographic.{pointwise}
 use Rattle.vt_path.specs.Match.{Skips, MatchesBytes, MatchesSegments}
-use Rattle.vt_path.specs.Marks.{mark, IsMarked, TakesByte, TakesOne, SomeName}
+use Rattle.vt_path.specs.private.Marks.{mark, IsMarked, TakesByte, TakesOne, SomeName}
 use Rattle.vt_path.specs.declared.pattern.Segment.{Segment}
 use Rattle.vt_path.specs.declared.pattern.Segment.TheVariants.{Parts}
 use Rattle.vt_path.specs.declared.pattern.Part.{Part}
@@ -132,9 +132,9 @@ parts_after parts k some =
     ap (λ x. drop 1 x) (take_rest parts (k - 1)) ∙ (drop-drop 1 (k - 1) parts ∙ ap (λ n. drop n parts) (let e : k - 1 + 1 ≡ k = omega arith in e))
 
 -- what the test of a name at a place says
-pub front_is : (bytes : List ℕ) (i : ℕ) (name p : List ℕ) (r : Bool) → p ≡ name → r ≡ pointwise eqb p (take (length p) (take (length bytes - i) (drop i bytes)))
+pub prefix_is : (bytes : List ℕ) (i : ℕ) (name p : List ℕ) (r : Bool) → p ≡ name → r ≡ pointwise eqb p (take (length p) (take (length bytes - i) (drop i bytes)))
     → (r ≡ true → drop i bytes ≡ name ++ drop (length name) (drop i bytes)) × ((rest : List ℕ) → drop i bytes ≡ name ++ rest → r ≡ true)
-front_is bytes i name p r same e =
+prefix_is bytes i name p r same e =
     let whole : take (length bytes - i) (drop i bytes) ≡ drop i bytes = take_rest bytes i in
     let f : r ≡ pointwise eqb name (take (length name) (drop i bytes)) =
     e ∙ (ap (λ x. pointwise eqb p (take (length p) x)) whole ∙ ap (λ x. pointwise eqb x (take (length x) (drop i bytes))) same) in
@@ -144,7 +144,7 @@ pub name_found : (names : List (List ℕ)) (bytes : List ℕ) (marks : List Bool
     → p ≡ name → r ≡ pointwise eqb p (take (length p) (take (length bytes - i) (drop i bytes))) → r ≡ true → n ≡ length name → mark marks (i + n) ≡ true
     → SomeName names bytes marks i
 name_found names bytes marks i k n name p r less is same e found size marked =
-    let f = front_is bytes i name p r same e in
+    let f = prefix_is bytes i name p r same e in
     (name, drop (length name) (drop i bytes), (k, less, sym is), f.0 found, ap (λ m. mark marks (i + m)) (sym size) ∙ marked)
 
 -- one name more that does not serve

@@ -5,7 +5,7 @@ use Rattle.std.proofs.lemmas.List.Elements.{All-head, All-tail}
 use Rattle.vt_path.specs.Byte.{IsPathByte}
 use Rattle.vt_path.specs.Path.{IsSegment, IsOnePath, path_text}
 use Rattle.vt_path.specs.Pattern.{IsPatternSegment, IsPart, IsWord, IsOnePattern, parts_text, segment_text, pattern_text}
-use Rattle.vt_path.specs.PatternReading.{parts_of}
+use Rattle.vt_path.specs.private.PatternReading.{parts_of}
 use Rattle.vt_path.specs.declared.pattern.Segment.{Segment}
 use Rattle.vt_path.specs.declared.pattern.Segment.TheVariants.{AnySegments, Parts}
 use Rattle.vt_path.specs.declared.pattern.Part.{Part}
@@ -20,23 +20,23 @@ Ends [] = Unit {0}
 Ends (b ∷ bs) = IsPathByte b → ⊥
 
 -- path bytes, and what stands after the last of them
-front : (s t x y : List ℕ) → All IsPathByte s → All IsPathByte t → Ends x → Ends y → s ++ x ≡ t ++ y → (s ≡ t) × (x ≡ y)
-front [] [] x y hs ht ex ey e = (refl, e)
-front [] (c ∷ t) [] y hs ht ex ey e = absurd (let z : [] ≡ c ∷ (t ++ y) = e in cc)
-front [] (c ∷ t) (b ∷ x) y hs ht ex ey e =
+prefix : (s t x y : List ℕ) → All IsPathByte s → All IsPathByte t → Ends x → Ends y → s ++ x ≡ t ++ y → (s ≡ t) × (x ≡ y)
+prefix [] [] x y hs ht ex ey e = (refl, e)
+prefix [] (c ∷ t) [] y hs ht ex ey e = absurd (let z : [] ≡ c ∷ (t ++ y) = e in cc)
+prefix [] (c ∷ t) (b ∷ x) y hs ht ex ey e =
     let z : b ∷ x ≡ c ∷ (t ++ y) = e in
     let same : c ≡ b = cc in
     absurd (ex (subst IsPathByte same (All-head IsPathByte c t ht)))
-front (b ∷ s) [] x [] hs ht ex ey e = absurd (let z : b ∷ (s ++ x) ≡ [] = e in cc)
-front (b ∷ s) [] x (c ∷ y) hs ht ex ey e =
+prefix (b ∷ s) [] x [] hs ht ex ey e = absurd (let z : b ∷ (s ++ x) ≡ [] = e in cc)
+prefix (b ∷ s) [] x (c ∷ y) hs ht ex ey e =
     let z : b ∷ (s ++ x) ≡ c ∷ y = e in
     let same : b ≡ c = cc in
     absurd (ey (subst IsPathByte same (All-head IsPathByte b s hs)))
-front (b ∷ s) (c ∷ t) x y hs ht ex ey e =
+prefix (b ∷ s) (c ∷ t) x y hs ht ex ey e =
     let z : b ∷ (s ++ x) ≡ c ∷ (t ++ y) = e in
     let same : b ≡ c = cc in
     let after : s ++ x ≡ t ++ y = cc in
-    let h = front s t x y (All-tail IsPathByte b s hs) (All-tail IsPathByte c t ht) ex ey after in
+    let h = prefix s t x y (All-tail IsPathByte b s hs) (All-tail IsPathByte c t ht) ex ey after in
     (ap (λ v. v ∷ s) same ∙ ap (λ v. c ∷ v) h.0, h.1)
 
 path_ends : (path : List (List ℕ)) → Ends (path_text path)
@@ -50,7 +50,7 @@ same_path (s ∷ ss) [] hp hq e = absurd (let z : 47 ∷ (s ++ path_text ss) ≡
 same_path (s ∷ ss) (t ∷ ts) hp hq e =
     let z : 47 ∷ (s ++ path_text ss) ≡ 47 ∷ (t ++ path_text ts) = e in
     let after : s ++ path_text ss ≡ t ++ path_text ts = cc in
-    let h = front s t (path_text ss) (path_text ts) (All-head IsSegment s ss hp).bytes (All-head IsSegment t ts hq).bytes (path_ends ss) (path_ends ts) after in
+    let h = prefix s t (path_text ss) (path_text ts) (All-head IsSegment s ss hp).bytes (All-head IsSegment t ts hq).bytes (path_ends ss) (path_ends ts) after in
     ap (λ (v : List ℕ). v ∷ ss) h.0 ∙ ap (λ (v : List (List ℕ)). t ∷ v) (same_path ss ts (All-tail IsSegment s ss hp) (All-tail IsSegment t ts hq) h.1)
 
 pub one_path : IsOnePath
@@ -79,7 +79,7 @@ same_others (n ∷ ns) (m ∷ ms) x y hn hm e =
     after_first 44 44 ((n ++ flat_map (λ other. 44 ∷ other) ns) ++ 125 ∷ x) ((m ++ flat_map (λ other. 44 ∷ other) ms) ++ 125 ∷ y) e in
     let words : n ++ others_text ns x ≡ m ++ others_text ms y =
     sym (append_assoc n (flat_map (λ other. 44 ∷ other) ns) (125 ∷ x)) ∙ (after ∙ append_assoc m (flat_map (λ other. 44 ∷ other) ms) (125 ∷ y)) in
-    let h = front n m (others_text ns x) (others_text ms y) (All-head IsWord n ns hn).bytes (All-head IsWord m ms hm).bytes (others_end ns x) (others_end ms y) words in
+    let h = prefix n m (others_text ns x) (others_text ms y) (All-head IsWord n ns hn).bytes (All-head IsWord m ms hm).bytes (others_end ns x) (others_end ms y) words in
     let g = same_others ns ms x y (All-tail IsWord n ns hn) (All-tail IsWord m ms hm) h.1 in
     (ap (λ (v : List ℕ). v ∷ ns) h.0 ∙ ap (λ (v : List (List ℕ)). m ∷ v) g.0, g.1)
 
@@ -132,7 +132,7 @@ same_parts (Set bytes ∷ ps) qs ss ts hp hq e =
     let a : bytes ++ 93 ∷ text_of ps ss ≡ ((bytes ++ 93 ∷ []) ++ parts_text ps) ++ pattern_text ss = simp append_assoc in
     let own : IsWord bytes = All-head IsPart (Set bytes) ps hp in
     let other : IsWord g.bytes = first_good (Set g.bytes) qs g.ps g.goes hq in
-    let h = front bytes g.bytes (93 ∷ text_of ps ss) (93 ∷ text_of g.ps ts) own.bytes other.bytes (no_closing_bracket 93 refl) (no_closing_bracket 93 refl) (a ∙ g.text) in
+    let h = prefix bytes g.bytes (93 ∷ text_of ps ss) (93 ∷ text_of g.ps ts) own.bytes other.bytes (no_closing_bracket 93 refl) (no_closing_bracket 93 refl) (a ∙ g.text) in
     let after : text_of ps ss ≡ text_of g.ps ts = after_first 93 93 (text_of ps ss) (text_of g.ps ts) h.1 in
     let goes : qs ≡ Set bytes ∷ g.ps = g.goes ∙ ap (λ (v : List ℕ). Set v ∷ g.ps) (sym h.0) in
     with_first (Set bytes) ps qs g.ps (pattern_text ss) (pattern_text ts) goes
@@ -145,7 +145,7 @@ same_parts (Alternatives (name ∷ names) ∷ ps) qs ss ts hp hq e =
     let a : name ++ others_text names (text_of ps ss) ≡ (((name ++ flat_map (λ other. 44 ∷ other) names) ++ 125 ∷ []) ++ parts_text ps) ++ pattern_text ss = simp append_assoc in
     let own : All IsWord (name ∷ names) = (All-head IsPart (Alternatives (name ∷ names)) ps hp).1 in
     let other : All IsWord (g.name ∷ g.names) = (first_good (Alternatives (g.name ∷ g.names)) qs g.ps g.goes hq).1 in
-    let h = front name g.name (others_text names (text_of ps ss)) (others_text g.names (text_of g.ps ts)) (All-head IsWord name names own).bytes
+    let h = prefix name g.name (others_text names (text_of ps ss)) (others_text g.names (text_of g.ps ts)) (All-head IsWord name names own).bytes
     (All-head IsWord g.name g.names other).bytes (others_end names (text_of ps ss)) (others_end g.names (text_of g.ps ts)) (a ∙ g.text) in
     let k = same_others names g.names (text_of ps ss) (text_of g.ps ts) (All-tail IsWord name names own) (All-tail IsWord g.name g.names other) h.1 in
     let all : g.name ∷ g.names ≡ name ∷ names = ap (λ (v : List ℕ). v ∷ g.names) (sym h.0) ∙ ap (λ (v : List (List ℕ)). name ∷ v) (sym k.0) in

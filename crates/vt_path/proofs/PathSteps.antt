@@ -4,9 +4,9 @@ use Rattle.std.proofs.lemmas.List.{append-nil}
 use Rattle.std.proofs.lemmas.List.Elements.{All-head, All-tail, All-nil, All-cons, All-push}
 use Rattle.vt_path.specs.Byte.{IsPathByte}
 use Rattle.vt_path.specs.Path.{IsPath, IsSegment, path_text}
-use Rattle.vt_path.specs.PathReading.{Leads, IsSound, Steps, NoStep, Ends, Takes}
+use Rattle.vt_path.specs.private.PathReading.{Leads, IsSound, Steps, NoStep, Ends, Takes}
 use Rattle.vt_path.proofs.ByteLemmas.{not_path_byte}
-use Rattle.vt_path.proofs.Fronts.{Reads, Opens}
+use Rattle.vt_path.proofs.Prefixes.{Reads, Opens}
 use Rattle.vt_path.proofs.Lists.{All-back, All-middle}
 
 -- what a slash goes on with: the end of the segment, and another

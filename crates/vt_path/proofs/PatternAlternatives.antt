@@ -4,13 +4,13 @@ use Rattle.std.proofs.lemmas.List.{append-nil}
 use Rattle.std.proofs.lemmas.List.Elements.{All-head, All-tail, All-nil, All-push}
 use Rattle.vt_path.specs.Byte.{IsPathByte}
 use Rattle.vt_path.specs.Pattern.{IsPattern, IsPart, IsWord, part_text, parts_text, names_text}
-use Rattle.vt_path.specs.PatternReading.{Reading, Leads, IsInAlternatives, IsSound, Steps, NoStep, FromParts, FromAlternatives, names_size}
+use Rattle.vt_path.specs.private.PatternReading.{Reading, Leads, IsInAlternatives, IsSound, Steps, NoStep, FromParts, FromAlternatives, names_size}
 use Rattle.vt_path.specs.declared.pattern.Segment.{Segment}
 use Rattle.vt_path.specs.declared.pattern.Part.{Part}
 use Rattle.vt_path.specs.declared.pattern.Part.TheVariants.{Alternatives}
 use Rattle.vt_path.specs.declared.pattern_reader.Place.TheVariants.{Between, InAlternatives}
 use Rattle.vt_path.proofs.ByteLemmas.{no_closing_brace, no_comma}
-use Rattle.vt_path.proofs.Lists.{All-front, All-back, All-middle}
+use Rattle.vt_path.proofs.Lists.{All-prefix, All-back, All-middle}
 use Rattle.vt_path.proofs.PatternNext.{parts_good, parts_short, same_begun}
 use Rattle.vt_path.proofs.PatternSteps.{leads_in, leads_out, inside_in, inside_out, length-with}
 
@@ -77,7 +77,7 @@ module _ (r : Reading) (e : r.place ≡ InAlternatives) where
       → All IsWord (r.names ++ (r.bytes ++ h.more) ∷ h.others)
   names_words good h =
       (All-middle IsPart r.parts (Alternatives (r.names ++ (r.bytes ++ h.more) ∷ h.others)) []
-      (All-front IsPart (r.parts ++ Alternatives (r.names ++ (r.bytes ++ h.more) ∷ h.others) ∷ []) h.closed.more (parts_good good h.closed))).1
+      (All-prefix IsPart (r.parts ++ Alternatives (r.names ++ (r.bytes ++ h.more) ∷ h.others) ∷ []) h.closed.more (parts_good good h.closed))).1
 
   names_word : {rest : List ℕ} {q : List Segment} → IsPattern q → (h : FromAlternatives r.done r.parts r.names r.bytes rest q) → IsWord (r.bytes ++ h.more)
   names_word good h = All-middle IsWord r.names (r.bytes ++ h.more) h.others (names_words good h)

@@ -4,14 +4,14 @@ use Rattle.std.proofs.lemmas.List.{append-nil}
 use Rattle.std.proofs.lemmas.List.Elements.{All-head, All-tail, All-nil, All-cons, All-push}
 use Rattle.vt_path.specs.Byte.{IsPathByte}
 use Rattle.vt_path.specs.Pattern.{IsPattern, IsPatternSegment, IsPart, IsWord, part_text, parts_text, segment_text, pattern_text, names_text}
-use Rattle.vt_path.specs.PatternReading.{Reading, Leads, IsBetween, IsInSet, IsInAlternatives, IsSound, Steps, NoStep, Ends, Takes, FromParts, FromSet, FromAlternatives, IsSegmentOf, parts_of}
+use Rattle.vt_path.specs.private.PatternReading.{Reading, Leads, IsBetween, IsInSet, IsInAlternatives, IsSound, Steps, NoStep, Ends, Takes, FromParts, FromSet, FromAlternatives, IsSegmentOf, parts_of}
 use Rattle.vt_path.specs.declared.pattern.Segment.{Segment}
 use Rattle.vt_path.specs.declared.pattern.Segment.TheVariants.{AnySegments, Parts}
 use Rattle.vt_path.specs.declared.pattern.Part.{Part}
 use Rattle.vt_path.specs.declared.pattern.Part.TheVariants.{Byte, AnyBytes, AnyByte, Set, Alternatives}
 use Rattle.vt_path.specs.declared.pattern_reader.Place.{Place}
 use Rattle.vt_path.specs.declared.pattern_reader.Place.TheVariants.{Between, InSet, InAlternatives}
-use Rattle.vt_path.proofs.Fronts.{Reads, Opens}
+use Rattle.vt_path.proofs.Prefixes.{Reads, Opens}
 use Rattle.vt_path.proofs.PatternNext.{good_segment, segment_with, segment_text-parts, parts_some}
 use Rattle.vt_path.proofs.PatternSteps.{leads_in, leads_out, inside_in, length-with}
 use Rattle.vt_path.proofs.PatternAlternatives.{length-middle}

@@ -4,13 +4,13 @@ use Rattle.std.proofs.lemmas.List.{append-nil}
 use Rattle.std.proofs.lemmas.List.Elements.{All-head, All-push}
 use Rattle.vt_path.specs.Byte.{IsPathByte}
 use Rattle.vt_path.specs.Pattern.{IsPattern, IsPart, IsWord, part_text, parts_text}
-use Rattle.vt_path.specs.PatternReading.{Reading, Leads, IsInSet, IsSound, Steps, NoStep, FromParts, FromSet}
+use Rattle.vt_path.specs.private.PatternReading.{Reading, Leads, IsInSet, IsSound, Steps, NoStep, FromParts, FromSet}
 use Rattle.vt_path.specs.declared.pattern.Segment.{Segment}
 use Rattle.vt_path.specs.declared.pattern.Part.{Part}
 use Rattle.vt_path.specs.declared.pattern.Part.TheVariants.{Set}
 use Rattle.vt_path.specs.declared.pattern_reader.Place.TheVariants.{Between, InSet}
 use Rattle.vt_path.proofs.ByteLemmas.{no_closing_bracket}
-use Rattle.vt_path.proofs.Lists.{All-front, All-back, All-middle}
+use Rattle.vt_path.proofs.Lists.{All-prefix, All-back, All-middle}
 use Rattle.vt_path.proofs.PatternNext.{parts_good, parts_short, same_begun}
 use Rattle.vt_path.proofs.PatternSteps.{leads_in, leads_out, inside_in, inside_out, length-with}
 
@@ -38,7 +38,7 @@ module _ (r : Reading) (e : r.place ≡ InSet) where
   -- the brackets, whole
   set_word : {rest : List ℕ} {q : List Segment} → IsPattern q → (h : FromSet r.done r.parts r.bytes rest q) → IsWord (r.bytes ++ h.more)
   set_word good h =
-      All-middle IsPart r.parts (Set (r.bytes ++ h.more)) [] (All-front IsPart (r.parts ++ Set (r.bytes ++ h.more) ∷ []) h.closed.more (parts_good good h.closed))
+      All-middle IsPart r.parts (Set (r.bytes ++ h.more)) [] (All-prefix IsPart (r.parts ++ Set (r.bytes ++ h.more) ∷ []) h.closed.more (parts_good good h.closed))
 
   set_short : {rest : List ℕ} {q : List Segment} → IsPattern q → (h : FromSet r.done r.parts r.bytes rest q)
       → length (parts_text r.parts) + 2 + length r.bytes + length h.more ≤ 64

@@ -4,7 +4,7 @@ use Rattle.std.proofs.lemmas.Grind.{flat_map-append}
 use Rattle.std.proofs.lemmas.List.Elements.{All-head, All-nil, All-cons}
 use Rattle.vt_path.specs.Byte.{IsPathByte}
 use Rattle.vt_path.specs.Pattern.{IsPattern, IsPatternSegment, IsPart, AreParts, part_text, parts_text, segment_text, pattern_text}
-use Rattle.vt_path.specs.PatternReading.{parts_of, FromParts, IsSegmentOf}
+use Rattle.vt_path.specs.private.PatternReading.{parts_of, FromParts, IsSegmentOf}
 use Rattle.vt_path.specs.declared.pattern.Segment.{Segment}
 use Rattle.vt_path.specs.declared.pattern.Segment.TheVariants.{AnySegments, Parts}
 use Rattle.vt_path.specs.declared.pattern.Part.{Part}

@@ -5,7 +5,7 @@ use Rattle.std.proofs.lemmas.List.{append-nil}
 use Rattle.std.proofs.lemmas.List.Elements.{All-head, All-nil, All-push}
 use Rattle.vt_path.specs.Byte.{IsPathByte}
 use Rattle.vt_path.specs.Pattern.{IsPattern, IsPatternSegment, IsPart, IsWord, part_text, parts_text, segment_text, pattern_text, names_text}
-use Rattle.vt_path.specs.PatternReading.{Reading, Leads, LeadsFrom, IsInside, IsBetween, IsSound, Steps, NoStep, FromParts, IsSegmentOf, IsOpening, parts_of, names_size}
+use Rattle.vt_path.specs.private.PatternReading.{Reading, Leads, LeadsFrom, IsInside, IsBetween, IsSound, Steps, NoStep, FromParts, IsSegmentOf, IsOpening, parts_of, names_size}
 use Rattle.vt_path.specs.declared.pattern.Segment.{Segment}
 use Rattle.vt_path.specs.declared.pattern.Part.{Part}
 use Rattle.vt_path.specs.declared.pattern.Part.TheVariants.{Byte, AnyBytes, AnyByte, Set, Alternatives}

@@ -1,15 +1,10 @@
 pub mod AnyOf
 pub mod Byte
-pub mod Decision
 pub mod Inner
 pub mod Kept
 pub mod KeptPattern
-pub mod Marks
 pub mod Match
 pub mod Path
-pub mod PathDecided
-pub mod PathReading
 pub mod Pattern
-pub mod PatternDecided
-pub mod PatternReading
+pub mod private
 pub mod Stop

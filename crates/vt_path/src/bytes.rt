@@ -1,3 +1,5 @@
+//! The bytes of paths.
+
 ghost use Rattle.std.specs.Prelude.{◌↔◌, IsTrue};
 ghost use Rattle.vt_path.specs.Byte.{IsPathByte};
 

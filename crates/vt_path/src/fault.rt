@@ -1,4 +1,5 @@
-use std::alloc::{AllocError, AllocFailed};
+//! Why there is no path or pattern.
+
 use thiserror::Error;
 use vt_frac::NoMemory;
 

@@ -1,5 +1,8 @@
-ghost use Rattle.std.specs.Prelude.{◌≡◌, IfOk};
-ghost use Rattle.vt_path.specs.Inner.{IsSymbolName, inner_of, kind_word};
+//! Inner paths, under which a program keeps bodies, functions and names.
+
+ghost use Rattle.std.specs.Prelude.{◌≡◌, IfOk, IsTrue};
+ghost use Rattle.vt_frac.specs.Names.{is_symbol_name};
+ghost use Rattle.vt_path.specs.Inner.{inner_of, kind_word};
 
 use crate::path::Path;
 use std::alloc::Global;
@@ -34,7 +37,7 @@ impl InnerKind {
 
 /// The inner path of this kind and name, such as `/!body/NAME`. No user writes it.
 pub fn inner(alloc: Global, kind: InnerKind, name: &[u8]) -> Result<Path, NoMemory>
-    requires { IsSymbolName name.now }
+    requires { IsTrue (is_symbol_name name.now) }
     ensures { IfOk result (λ path. path ≡ inner_of kind name.now) }
 {
     let mut segments = Vec::new(alloc);

@@ -17,7 +17,7 @@ mod pattern_reader;
 
 pub use fault::PathFault;
 pub use inner_path::{InnerKind, inner};
-pub use laws::{one_path_law, one_pattern_law, path_law, pattern_law};
+pub use laws::{one_path_law, one_pattern_law};
 pub use literal_pattern::{any_of, literal};
 pub use names::Names;
 pub use path::Path;
@@ -25,6 +25,3 @@ pub use path_match::matches;
 pub use path_reader::parse_path;
 pub use pattern::{Part, Parts, Pattern, Segment};
 pub use pattern_reader::parse_pattern;
-
-#[cfg(test)]
-mod tests;

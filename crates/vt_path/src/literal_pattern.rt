@@ -1,6 +1,8 @@
-ghost use Rattle.std.specs.Prelude.{◌≡◌, ◌↔◌, ◌++◌, ℕ, List, IfOk};
+//! Patterns that are made: of a path, and of a bare name.
+
+ghost use Rattle.std.specs.Prelude.{◌≡◌, ◌↔◌, ◌++◌, ℕ, List, IfOk, IsTrue};
 ghost use Rattle.vt_path.specs.AnyOf.{IsNamed, any_of_name, any_of_text};
-ghost use Rattle.vt_path.specs.Inner.{IsSymbolName};
+ghost use Rattle.vt_frac.specs.Names.{is_symbol_name};
 ghost use Rattle.vt_path.specs.Match.{Matches, literal_of, literal_segment};
 ghost use Rattle.vt_path.specs.Pattern.{IsPattern, pattern_text};
 
@@ -32,11 +34,19 @@ fn literal_segments(alloc: Global, path: &[Name]) -> Result<Vec<Segment>, NoMemo
 
 /// The pattern `/{cue,set,live_loop}/NAME`, which matches the paths that a name stands for.
 pub fn any_of(alloc: Global, name: &[u8]) -> Result<Pattern, NoMemory>
-    requires { IsSymbolName name.now }
+    requires { IsTrue (is_symbol_name name.now) }
     ensures value { IfOk result (λ pattern. pattern ≡ any_of_name name.now) }
     ensures pattern { IfOk result (λ pattern. IsPattern pattern) }
     ensures written { IfOk result (λ pattern. pattern_text pattern ≡ any_of_text ++ name.now) }
     ensures matches { IfOk result (λ pattern. (path : List (List ℕ)) → Matches pattern path ↔ IsNamed name.now path) }
+{
+    Ok(Pattern {
+        segments: any_of_segments(alloc, name)?,
+    })
+}
+
+fn any_of_segments(alloc: Global, name: &[u8]) -> Result<Vec<Segment>, NoMemory>
+    ensures { IfOk result (λ segments. segments.items ≡ any_of_name name.now) }
 {
     let mut names = Vec::new(alloc);
     names.push(Name::of(alloc, b"cue")?)?;
@@ -47,7 +57,7 @@ pub fn any_of(alloc: Global, name: &[u8]) -> Result<Pattern, NoMemory>
     let mut segments = Vec::new(alloc);
     segments.push(Segment::Parts(Parts { parts }))?;
     segments.push(literal_of_segment(alloc, name)?)?;
-    Ok(Pattern { segments })
+    Ok(segments)
 }
 
 /// The segment of a pattern that matches these bytes alone.

@@ -1,5 +1,7 @@
+//! Marks at the places of a list.
+
 ghost use Rattle.std.specs.Prelude.{◌≡◌, ◌+◌, ◌<◌, ◌||◌, ℕ, length, true, false};
-ghost use Rattle.vt_path.specs.Marks.{mark};
+ghost use Rattle.vt_path.specs.private.Marks.{mark};
 
 /// Marks the last place alone.
 pub fn mark_end(marks: &mut [bool], last: usize)

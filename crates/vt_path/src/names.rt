@@ -1,3 +1,5 @@
+//! Some names, in order.
+
 ghost use Rattle.std.specs.Prelude.{◌≡◌, IfOk};
 ghost use Rattle.vt_path.specs.Pattern.{names_text};
 

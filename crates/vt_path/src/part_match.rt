@@ -2,7 +2,7 @@
 //! marked from which the parts match what is left. So the cost is at most a product of the lengths.
 
 ghost use Rattle.std.specs.Prelude.{◌≡◌, ◌+◌, ◌<◌, ◌≤◌, ◌↔◌, ℕ, length, drop, slice_index, IsTrue, false};
-ghost use Rattle.vt_path.specs.Marks.{IsMarked, SomeName, TakesByte, mark};
+ghost use Rattle.vt_path.specs.private.Marks.{IsMarked, SomeName, TakesByte, mark};
 ghost use Rattle.vt_path.specs.Match.{Holds, MatchesBytes};
 
 use crate::marks::{mark_end, skip};

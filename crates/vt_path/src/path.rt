@@ -1,3 +1,5 @@
+//! Paths of events.
+
 ghost use Rattle.std.specs.Prelude.{◌≡◌, ◌++◌, IfOk, OnErr, OnOk};
 ghost use Rattle.vt_path.specs.Path.{path_text};
 ghost use Rattle.vt_path.specs.Match.{is_inner};

@@ -3,7 +3,7 @@
 
 ghost use Rattle.std.specs.Prelude.{◌≡◌, ◌+◌, ◌<◌, ◌≤◌, ◌↔◌, ℕ, [], length, drop, slice_index_or, IsTrue, false};
 ghost use Rattle.std.specs.List.{All};
-ghost use Rattle.vt_path.specs.Marks.{IsMarked, mark};
+ghost use Rattle.vt_path.specs.private.Marks.{IsMarked, mark};
 ghost use Rattle.vt_path.specs.Match.{Matches, MatchesBytes, MatchesSegments, byte_parts, literal_of, literal_segment};
 
 use crate::marks::{mark_end, skip};

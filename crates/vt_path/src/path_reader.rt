@@ -1,7 +1,9 @@
+//! Reads a path, byte by byte.
+
 ghost use Rattle.std.specs.Prelude.{◌≡◌, [], ◌∷◌, IfOk, IfErr};
 ghost use Rattle.vt_path.specs.Path.{IsPath, IsPathText, path_text};
 ghost use Rattle.vt_path.specs.Stop.{IsCause};
-ghost use Rattle.vt_path.specs.PathReading.{IsSound, Takes, Ends};
+ghost use Rattle.vt_path.specs.private.PathReading.{IsSound, Takes, Ends};
 
 use crate::bytes::is_path_byte;
 use crate::fault::PathFault;

@@ -1,4 +1,6 @@
-ghost use Rattle.std.specs.Prelude.{◌≡◌, ◌++◌, IfOk, OnErr, OnOk};
+//! Patterns of paths, and their parts.
+
+ghost use Rattle.std.specs.Prelude.{◌≡◌, ◌∷◌, ◌++◌, [], IfOk, OnErr, OnOk};
 ghost use Rattle.vt_path.specs.Pattern.{part_text, parts_text, pattern_text, segment_text};
 
 use crate::names::{Names, copy_names, names_bytes};
@@ -170,23 +172,32 @@ impl Part {
     fn bytes(&self, alloc: Global) -> Result<Vec<u8>, NoMemory>
         ensures { IfOk result (λ text. text.items ≡ part_text self.now) }
     {
-        let mut text = Vec::new(alloc);
         match self {
-            Part::Byte(byte) => text.push(*byte)?,
-            Part::AnyBytes => text.push(b'*')?,
-            Part::AnyByte => text.push(b'?')?,
-            Part::Set(held) => {
-                text.push(b'[')?;
-                text.extend_from_slice(held.as_bytes())?;
-                text.push(b']')?;
-            }
+            Part::Byte(byte) => one_byte(alloc, *byte),
+            Part::AnyBytes => one_byte(alloc, b'*'),
+            Part::AnyByte => one_byte(alloc, b'?'),
+            Part::Set(held) => between(alloc, b'[', held.as_bytes(), b']'),
             Part::Alternatives(names) => {
-                text.push(b'{')?;
                 let bytes = names_bytes(alloc, names.names.as_slice())?;
-                text.extend_from_slice(bytes.as_slice())?;
-                text.push(b'}')?;
+                between(alloc, b'{', bytes.as_slice(), b'}')
             }
         }
-        Ok(text)
     }
+}
+
+fn one_byte(alloc: Global, byte: u8) -> Result<Vec<u8>, NoMemory>
+    ensures { IfOk result (λ text. text.items ≡ byte ∷ []) }
+{
+    Ok(Vec::from_slice(alloc, &[byte])?)
+}
+
+/// These bytes between two others.
+fn between(alloc: Global, first: u8, bytes: &[u8], last: u8) -> Result<Vec<u8>, NoMemory>
+    ensures { IfOk result (λ text. text.items ≡ first ∷ (bytes.now ++ last ∷ [])) }
+{
+    let mut text = Vec::new(alloc);
+    text.push(first)?;
+    text.extend_from_slice(bytes)?;
+    text.push(last)?;
+    Ok(text)
 }

@@ -1,6 +1,8 @@
+//! Reads a pattern, byte by byte.
+
 ghost use Rattle.std.specs.Prelude.{◌≡◌, ◌↔◌, ℕ, [], ◌∷◌, IfOk, IfErr, IsTrue};
 ghost use Rattle.vt_path.specs.Pattern.{IsPattern, IsPatternText, IsPart, part_text, pattern_text};
-ghost use Rattle.vt_path.specs.PatternReading.{IsSound, Takes, Ends, IsOpening, IsSegmentOf, reading};
+ghost use Rattle.vt_path.specs.private.PatternReading.{IsSound, Takes, Ends, IsOpening, IsSegmentOf, reading};
 ghost use Rattle.vt_path.specs.Stop.{IsCause};
 
 use crate::bytes::is_path_byte;

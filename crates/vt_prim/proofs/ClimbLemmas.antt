@@ -8,7 +8,7 @@ use Rattle.vt_value.specs.Answers.{Gives}
 use Rattle.vt_ring.specs.Answers.{and_then}
 use Rattle.vt_ring.specs.Called.{as_ring}
 use Rattle.vt_ring.specs.NoteCalls.{raised, steps_up, intervals_above, times}
-use Rattle.vt_prim.specs.Climbing.{climbed, behind, SameEnd}
+use Rattle.vt_prim.specs.private.Climbing.{climbed, behind, SameEnd}
 
 -- two ways one after the other
 pub climbed-append : (note : Value) (a b : List ℕ) → climbed note (a ++ b) ≡ and_then (climbed note a) (λ top. climbed top b)
@@ -35,10 +35,6 @@ round_err note kind left steps h e =
     ap (λ (r : Result Value FaultKind). and_then r (λ t. climbed t (times (left - 1) steps))) e
     ∙ sym (climbed-append note steps (times (left - 1) steps)) ∙ ap (climbed note) (sym (times-step left steps h))
 
--- no time is left
-pub no_round : (top : Value) (left : ℕ) (steps : List ℕ) → left ≡ 0 → Ok top ≡ climbed top (times left steps)
-no_round top left steps h = rw h refl
-
 -- the way and its notes have one fault
 pub way-ok : (note top : Value) (steps : List ℕ) → climbed note steps ≡ Ok top → IsOk (steps_up note steps)
 way-ok note top [] h = refl
@@ -63,59 +59,13 @@ way-err note kind (s ∷ ss) h = go (raised note s) h (λ n. way-err n kind ss)
     go (Ok n) e ih = inner (steps_up n ss) (ih n e)
     go (Err k) e ih = cc
 
-behind-first : (made : List Value) (note : Value) (r : Result (List Value) FaultKind) → behind (made ++ note ∷ []) r ≡ behind made (and_then r (λ notes. Ok (note ∷ notes)))
-behind-first made note (Ok notes) = ap (λ (xs : List Value). let a : Result (List Value) FaultKind = Ok xs in a) (append_assoc made (note ∷ []) notes)
-behind-first made note (Err kind) = refl
-
--- a note is there, and the way goes on from the next
-pub one_up : (made : List Value) (note next : Value) (step : ℕ) (steps : List ℕ) → Ok next ≡ raised note step → behind (made ++ note ∷ []) (steps_up next steps) ≡ behind made (steps_up note (step ∷ steps))
-one_up made note next step steps e =
-    behind-first made note (steps_up next steps)
-    ∙ ap (λ (r : Result Value FaultKind). behind made (and_then r (λ n. and_then (steps_up n steps) (λ notes. Ok (note ∷ notes))))) e
-
 pub no_further : (note : Value) (kind : FaultKind) (step : ℕ) (steps : List ℕ) → Err kind ≡ raised note step → Err kind ≡ steps_up note (step ∷ steps)
 no_further note kind step steps e = ap (λ (r : Result Value FaultKind). and_then r (λ n. and_then (steps_up n steps) (λ notes. Ok (note ∷ notes)))) e
-
--- the same for an interval
-pub one_above : (made : List Value) (note first : Value) (interval : ℕ) (intervals : List ℕ) → Ok first ≡ raised note interval → behind (made ++ first ∷ []) (intervals_above note intervals) ≡ behind made (intervals_above note (interval ∷ intervals))
-one_above made note first interval intervals e =
-    behind-first made first (intervals_above note intervals)
-    ∙ ap (λ (r : Result Value FaultKind). behind made (and_then r (λ n. and_then (intervals_above note intervals) (λ notes. Ok (n ∷ notes))))) e
-
-pub none_above : (note : Value) (kind : FaultKind) (interval : ℕ) (intervals : List ℕ) → Err kind ≡ raised note interval → Err kind ≡ intervals_above note (interval ∷ intervals)
-none_above note kind interval intervals e = ap (λ (r : Result Value FaultKind). and_then r (λ n. and_then (intervals_above note intervals) (λ notes. Ok (n ∷ notes)))) e
-
--- a fault stays one
-pub behind-err : (made : List Value) (kind : FaultKind) (r all : Result (List Value) FaultKind) → behind made r ≡ all → Err kind ≡ r → all ≡ Err kind
-behind-err made kind r all h e = sym h ∙ ap (behind made) (sym e)
 
 -- nothing stands in front
 pub behind-none : (r : Result (List Value) FaultKind) → behind [] r ≡ r
 behind-none (Ok notes) = refl
 behind-none (Err kind) = refl
-
--- one interval before the others
-pub same_end-more : (note first : Value) (interval : ℕ) (intervals : List ℕ) (all : Result (List Value) FaultKind) → Ok first ≡ raised note interval → SameEnd (intervals_above note (interval ∷ intervals)) all → SameEnd (intervals_above note intervals) all
-same_end-more note first interval intervals all e same =
-    let step = ap (λ (r : Result Value FaultKind). and_then r (λ n. and_then (intervals_above note intervals) (λ notes. Ok (n ∷ notes)))) e in
-    record {
-      there = λ ok. same.there (subst IsOk step (there (intervals_above note intervals) ok));
-      fault = λ kind h. same.fault kind (sym step ∙ fault (intervals_above note intervals) kind h);
-    }
-  where
-    there : (r : Result (List Value) FaultKind) → IsOk r → IsOk (and_then r (λ notes. Ok (first ∷ notes)))
-    there (Ok notes) ok = refl
-    there (Err kind) ok = ok
-
-    fault : (r : Result (List Value) FaultKind) (kind : FaultKind) → r ≡ Err kind → and_then r (λ notes. Ok (first ∷ notes)) ≡ Err kind
-    fault r kind h = rw h refl
-
--- one more time
-pub times_ok : (notes : List Value) (all : Result (List Value) FaultKind) (note top : Value) (made : List Value) (left : ℕ) (steps : List ℕ) → 0 < left
-    → ((more : List ℕ) → behind notes (steps_up note (steps ++ more)) ≡ behind made (steps_up top more))
-    → behind notes (steps_up note (times left steps)) ≡ all → behind made (steps_up top (times (left - 1) steps)) ≡ all
-times_ok notes all note top made left steps h each e =
-    sym (each (times (left - 1) steps)) ∙ ap (λ (s : List ℕ). behind notes (steps_up note s)) (sym (times-step left steps h)) ∙ e
 
 pub times_err : (notes : List Value) (all : Result (List Value) FaultKind) (note : Value) (kind : FaultKind) (left : ℕ) (steps : List ℕ) → 0 < left
     → ((more : List ℕ) → behind notes (steps_up note (steps ++ more)) ≡ Err kind)

@@ -1,3 +1,1 @@
-pub mod Climbing
-pub mod Numbers
-pub mod Sorting
+pub mod private

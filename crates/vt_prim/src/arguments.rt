@@ -2,10 +2,11 @@
 
 ghost use Rattle.std.specs.Prelude.{◌≡◌, Ok, Err, IfOk, IfErr, Some};
 ghost use Rattle.std.specs.Option.{option_copied};
-ghost use Rattle.vt_ring.specs.Arguments.{between, whole_argument};
+ghost use Rattle.vt_ring.specs.Arguments.{between};
 ghost use Rattle.vt_ring.specs.Signatures.{number_argument, number_or, one_of, one_or_none_of, one_or_two_of, option_named, ring_argument, symbol_argument, two_of, two_or_three_of, whole_or};
 
 use vt_frac::{Frac, Name};
+use vt_ring::whole_argument;
 use vt_value::{FaultKind, Integer, Value};
 
 /// The one argument.
@@ -87,21 +88,6 @@ pub(crate) fn ring_argument(value: &Value) -> Result<&[Value], FaultKind>
         Value::Part(_) => Err(FaultKind::WrongKind),
         Value::Sym(_) => Err(FaultKind::WrongKind),
         Value::Text(_) => Err(FaultKind::WrongKind),
-    }
-}
-
-/// A whole number.
-pub(crate) fn whole_argument(value: &Value) -> Result<Integer, FaultKind>
-    ensures { result ≡ whole_argument value.now }
-{
-    match value {
-        Value::Whole(n) => Ok(*n),
-        Value::Nil => Err(FaultKind::WrongKind),
-        Value::Bool(_) => Err(FaultKind::WrongKind),
-        Value::Part(_) => Err(FaultKind::WrongKind),
-        Value::Sym(_) => Err(FaultKind::WrongKind),
-        Value::Text(_) => Err(FaultKind::WrongKind),
-        Value::Ring(_) => Err(FaultKind::WrongKind),
     }
 }
 

@@ -4,10 +4,10 @@ ghost use Rattle.std.specs.Prelude.{◌≡◌, ◌<◌, List, ℕ, ◌∷◌, []
 ghost use Rattle.vt_value.specs.Answers.{Gives};
 ghost use Rattle.vt_ring.specs.NoteCalls.{intervals_above, raised, steps_up, times};
 ghost use Rattle.vt_value.specs.declared.fault.FaultKind.{FaultKind};
-ghost use Rattle.vt_prim.specs.Climbing.{behind, climbed};
-ghost use Rattle.vt_prim.specs.Numbers.{answer_of, value_of};
+ghost use Rattle.vt_prim.specs.private.Climbing.{behind, climbed};
+ghost use Rattle.vt_prim.specs.private.Adding.{answer_of, value_of};
 
-use crate::number::{Number, plus, value_of};
+use crate::adding::{Number, plus, value_of};
 use crate::signatures::integer;
 use std::alloc::Global;
 use vt_frac::NoMemory;

@@ -5,9 +5,9 @@ ghost use Rattle.std.specs.List.{list_all};
 ghost use Rattle.vt_value.specs.Answers.{Gives};
 ghost use Rattle.vt_value.specs.Kinds.{number_of};
 ghost use Rattle.vt_ring.specs.CountCalls.{added_up, are_numbers, count_call, length_call, size_call, sum_call};
-ghost use Rattle.vt_prim.specs.Numbers.{answer_of, value_of};
+ghost use Rattle.vt_prim.specs.private.Adding.{answer_of, value_of};
 
-use crate::number::{Number, plus, value_of};
+use crate::adding::{Number, plus, value_of};
 use crate::signatures::{a_ring, integer};
 use vt_value::{FaultKind, Integer, Value, ValueFault};
 

@@ -1,6 +1,7 @@
 //! The pure and random calls of the language.
 #![tactic(auto)]
 
+mod adding;
 mod arguments;
 mod climbing;
 mod counting;
@@ -8,7 +9,6 @@ mod draws;
 mod lists;
 mod making;
 mod notes;
-mod number;
 mod numbers;
 mod parts;
 mod picking;
@@ -17,7 +17,5 @@ mod rows;
 mod shuffling;
 mod signatures;
 mod sorting;
-#[cfg(test)]
-mod tests;
 
 pub use rows::call;

@@ -9,7 +9,7 @@ ghost use Rattle.vt_ring.specs.Limits.{within_limits};
 
 use std::alloc::Global;
 use vt_ring::drop_first;
-use vt_value::{FaultKind, Integer, Items, MAX_ITEMS, MAX_SIZE, Value, ValueFault, sizes};
+use vt_value::{FaultKind, Items, MAX_ITEMS, MAX_SIZE, Value, ValueFault, sizes};
 
 /// Copies of the items, or `TooLarge`.
 pub(crate) fn copies_within(alloc: Global, items: &[Value]) -> Result<Items, ValueFault>
@@ -26,10 +26,9 @@ pub(crate) fn are_within(items: &[Value]) -> bool
 }
 
 /// A whole number of at least 0.
-pub(crate) fn count_from(number: Integer) -> Result<usize, FaultKind>
-    ensures { result ≡ count_from number }
+pub(crate) fn count_from(n: i64) -> Result<usize, FaultKind>
+    ensures { result ≡ count_from n }
 {
-    let n = number.get();
     if n < 0 {
         return Err(FaultKind::BadValue);
     }
@@ -37,14 +36,14 @@ pub(crate) fn count_from(number: Integer) -> Result<usize, FaultKind>
 }
 
 /// The first items, so many.
-pub(crate) fn front_of(items: &[Value], count: usize) -> &[Value]
+pub(crate) fn prefix_of(items: &[Value], count: usize) -> &[Value]
     ensures { result.now ≡ take count items.now }
 {
     &items[..count.min(items.len())]
 }
 
 /// All but so many of the first items.
-pub(crate) fn back_of(items: &[Value], count: usize) -> &[Value]
+pub(crate) fn rest_of(items: &[Value], count: usize) -> &[Value]
     ensures { result.now ≡ drop count items.now }
 {
     &items[count.min(items.len())..]

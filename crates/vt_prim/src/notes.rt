@@ -6,16 +6,15 @@ ghost use Rattle.vt_table.specs.Lists.{chord_intervals, scale_steps};
 ghost use Rattle.vt_table.specs.Notes.{note_number};
 ghost use Rattle.vt_ring.specs.NoteCalls.{chord_call, note_call, octs_call, scale_call};
 ghost use Rattle.vt_ring.specs.Signatures.{a_note_and_a_whole, named_note, note_argument};
-ghost use Rattle.vt_prim.specs.Numbers.{answer_of};
+ghost use Rattle.vt_prim.specs.private.Adding.{answer_of};
 
-use crate::arguments::{
-    between, one, option_named, symbol_argument, two, whole_argument, whole_or,
-};
+use crate::adding::{Number, value_of};
+use crate::arguments::{between, one, option_named, symbol_argument, two, whole_or};
 use crate::climbing::{notes_above, notes_up};
-use crate::number::{Number, value_of};
 use crate::signatures::integer;
 use std::alloc::Global;
 use vt_frac::Name;
+use vt_ring::whole_argument;
 use vt_table::{chord_of, note_of, scale_of};
 use vt_value::{FaultKind, Integer, Value, ValueFault};
 

@@ -3,13 +3,13 @@
 ghost use Rattle.std.specs.Prelude.{◌≡◌, pos};
 ghost use Rattle.vt_frac.specs.Arithmetic.{floor_of};
 ghost use Rattle.vt_value.specs.Answers.{Gives};
-ghost use Rattle.vt_ring.specs.Exact.{exact_sum};
 ghost use Rattle.vt_ring.specs.NumberCalls.{abs_call, ceil_call, ceiling_of, dec_call, even_call, floor_call, half, inc_call, is_even, max_call, min_call, odd_call, round_call};
 
 use crate::arguments::{one, two};
 use crate::signatures::{a_number, a_whole, integer};
 use std::alloc::Global;
 use vt_frac::Frac;
+use vt_ring::exact_sum;
 use vt_value::{ArithOp, FaultKind, Integer, OrderOp, Value, ValueFault, arith, compare};
 
 /// `min N, N`
@@ -121,15 +121,6 @@ fn half() -> Frac
     match Frac::new(1, 2) {
         Ok(fraction) => fraction,
         Err(_) => unreachable!(),
-    }
-}
-
-pub(crate) fn exact_sum(a: Frac, b: Frac) -> Result<Frac, FaultKind>
-    ensures { result ≡ exact_sum a b }
-{
-    match a.add(b) {
-        Ok(sum) => Ok(sum),
-        Err(_) => Err(FaultKind::Overflow),
     }
 }
 

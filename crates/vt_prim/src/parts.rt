@@ -6,9 +6,9 @@ ghost use Rattle.vt_ring.specs.Called.{as_ring};
 ghost use Rattle.vt_ring.specs.Turning.{rotate_of};
 ghost use Rattle.vt_ring.specs.PartCalls.{butlast_call, drop_call, drop_last_call, drop_last_of, first_call, last_call, mirror_call, reflect_call, repeat_call, reverse_call, rotate_call, stretch_call, take_call, take_last_call, take_last_of};
 
-use crate::arguments::{one_or_two, ring_argument, two, whole_argument, whole_or};
-use crate::lists::{back_of, copies_within, copy_of_item, count_from, front_of};
-use crate::signatures::{a_ring, integer};
+use crate::arguments::{one_or_two, ring_argument, whole_or};
+use crate::lists::{copies_within, copy_of_item, count_from, prefix_of, rest_of};
+use crate::signatures::{a_ring, a_ring_and_a_whole, integer};
 use std::alloc::Global;
 use vt_ring::{drop_first, mirror, reflect, repeat, reverse, rotate, stretch, take};
 use vt_value::{Integer, Items, Value, ValueFault};
@@ -18,10 +18,8 @@ use vt_value::{Integer, Items, Value, ValueFault};
 pub(crate) fn take_call(alloc: Global, args: &[Value]) -> Result<Value, ValueFault>
     ensures { Gives (take_call args.now) result }
 {
-    let (r, n) = two(args)?;
-    let items = ring_argument(r)?;
-    let number = whole_argument(n)?;
-    let list = take(alloc, items, number.get())?;
+    let (items, n) = a_ring_and_a_whole(args)?;
+    let list = take(alloc, items, n)?;
     Ok(Value::Ring(list))
 }
 
@@ -30,10 +28,8 @@ pub(crate) fn take_call(alloc: Global, args: &[Value]) -> Result<Value, ValueFau
 pub(crate) fn drop_call(alloc: Global, args: &[Value]) -> Result<Value, ValueFault>
     ensures { Gives (drop_call args.now) result }
 {
-    let (r, n) = two(args)?;
-    let items = ring_argument(r)?;
-    let number = whole_argument(n)?;
-    let list = drop_first(alloc, items, number.get())?;
+    let (items, n) = a_ring_and_a_whole(args)?;
+    let list = drop_first(alloc, items, n)?;
     Ok(Value::Ring(list))
 }
 
@@ -42,10 +38,8 @@ pub(crate) fn drop_call(alloc: Global, args: &[Value]) -> Result<Value, ValueFau
 pub(crate) fn take_last_call(alloc: Global, args: &[Value]) -> Result<Value, ValueFault>
     ensures { Gives (take_last_call args.now) result }
 {
-    let (r, n) = two(args)?;
-    let items = ring_argument(r)?;
-    let number = whole_argument(n)?;
-    let list = take_last(alloc, items, number)?;
+    let (items, n) = a_ring_and_a_whole(args)?;
+    let list = take_last(alloc, items, n)?;
     Ok(Value::Ring(list))
 }
 
@@ -54,10 +48,8 @@ pub(crate) fn take_last_call(alloc: Global, args: &[Value]) -> Result<Value, Val
 pub(crate) fn drop_last_call(alloc: Global, args: &[Value]) -> Result<Value, ValueFault>
     ensures { Gives (drop_last_call args.now) result }
 {
-    let (r, n) = two(args)?;
-    let items = ring_argument(r)?;
-    let number = whole_argument(n)?;
-    let list = drop_last(alloc, items, number)?;
+    let (items, n) = a_ring_and_a_whole(args)?;
+    let list = drop_last(alloc, items, n)?;
     Ok(Value::Ring(list))
 }
 
@@ -66,10 +58,8 @@ pub(crate) fn drop_last_call(alloc: Global, args: &[Value]) -> Result<Value, Val
 pub(crate) fn stretch_call(alloc: Global, args: &[Value]) -> Result<Value, ValueFault>
     ensures { Gives (stretch_call args.now) result }
 {
-    let (r, n) = two(args)?;
-    let items = ring_argument(r)?;
-    let number = whole_argument(n)?;
-    let list = stretch(alloc, items, number.get())?;
+    let (items, n) = a_ring_and_a_whole(args)?;
+    let list = stretch(alloc, items, n)?;
     Ok(Value::Ring(list))
 }
 
@@ -78,10 +68,8 @@ pub(crate) fn stretch_call(alloc: Global, args: &[Value]) -> Result<Value, Value
 pub(crate) fn repeat_call(alloc: Global, args: &[Value]) -> Result<Value, ValueFault>
     ensures { Gives (repeat_call args.now) result }
 {
-    let (r, n) = two(args)?;
-    let items = ring_argument(r)?;
-    let number = whole_argument(n)?;
-    let list = repeat(alloc, items, number.get())?;
+    let (items, n) = a_ring_and_a_whole(args)?;
+    let list = repeat(alloc, items, n)?;
     Ok(Value::Ring(list))
 }
 
@@ -132,7 +120,7 @@ pub(crate) fn butlast_call(alloc: Global, args: &[Value]) -> Result<Value, Value
     ensures { Gives (butlast_call args.now) result }
 {
     let items = a_ring(args)?;
-    let list = copies_within(alloc, front_of(items, items.len().saturating_sub(1)))?;
+    let list = copies_within(alloc, prefix_of(items, items.len().saturating_sub(1)))?;
     Ok(Value::Ring(list))
 }
 
@@ -155,19 +143,19 @@ pub(crate) fn last_call(alloc: Global, args: &[Value]) -> Result<Value, ValueFau
 }
 
 /// The last items, so many.
-fn take_last(alloc: Global, items: &[Value], number: Integer) -> Result<Items, ValueFault>
-    ensures { Gives (take_last_of items.now number) result }
+fn take_last(alloc: Global, items: &[Value], n: i64) -> Result<Items, ValueFault>
+    ensures { Gives (take_last_of items.now n) result }
 {
-    let count = count_from(number)?;
-    copies_within(alloc, back_of(items, items.len().saturating_sub(count)))
+    let count = count_from(n)?;
+    copies_within(alloc, rest_of(items, items.len().saturating_sub(count)))
 }
 
 /// All but so many of the last items.
-fn drop_last(alloc: Global, items: &[Value], number: Integer) -> Result<Items, ValueFault>
-    ensures { Gives (drop_last_of items.now number) result }
+fn drop_last(alloc: Global, items: &[Value], n: i64) -> Result<Items, ValueFault>
+    ensures { Gives (drop_last_of items.now n) result }
 {
-    let count = count_from(number)?;
-    copies_within(alloc, front_of(items, items.len().saturating_sub(count)))
+    let count = count_from(n)?;
+    copies_within(alloc, prefix_of(items, items.len().saturating_sub(count)))
 }
 
 /// The ring of the items, turned.

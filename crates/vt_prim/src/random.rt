@@ -2,19 +2,18 @@
 
 ghost use Rattle.std.specs.Prelude.{◌≡◌, ◌+◌, ◌<◌, ◌≤◌, ◌-ℤ◌, ◌+ℤ◌, ◌≤ℤ◌, IfOk, pos};
 ghost use Rattle.vt_value.specs.Answers.{Gives};
-ghost use Rattle.vt_ring.specs.Exact.{exact_difference, exact_product};
 ghost use Rattle.vt_ring.specs.RandomCalls.{bound_in, choose_call, dice_call, numbers_between, one_in_call, part_of_the_way, rand_call, rand_i_call, rrand_call, rrand_i_call};
 ghost use Rattle.vt_ring.specs.Streams.{moved_on, words_from};
 
 use crate::arguments::between;
 use crate::draws::{chosen, next_below, next_unit, next_word};
-use crate::numbers::exact_sum;
 use crate::signatures::{
     a_ring, a_whole, integer, perhaps_a_number, perhaps_a_whole, two_numbers, two_wholes,
 };
 use std::alloc::Global;
 use vt_frac::Frac;
 use vt_rand::Stream;
+use vt_ring::{exact_difference, exact_product, exact_sum};
 use vt_value::{FaultKind, Integer, Value, ValueFault};
 
 /// `rand`, `rand N`
@@ -117,8 +116,25 @@ fn numbers_between(a: Integer, b: Integer) -> Result<u32, FaultKind>
     ensures value { result ≡ numbers_between (b -ℤ a) }
     ensures some { IfOk result (λ count. (1 ≤ count) × (b -ℤ a ≡ pos count -ℤ pos 1)) }
 {
-    let distance = i128::from(b.get()) - i128::from(a.get());
-    if distance < 0 || distance >= 4_294_967_295 {
+    numbers_over(distance(a, b))
+}
+
+/// How far it is from a to b.
+fn distance(a: Integer, b: Integer) -> i128
+    ensures { result ≡ b -ℤ a }
+{
+    i128::from(b.get()) - i128::from(a.get())
+}
+
+/// How many whole numbers there are over a distance, with both ends.
+fn numbers_over(distance: i128) -> Result<u32, FaultKind>
+    ensures value { result ≡ numbers_between distance }
+    ensures some { IfOk result (λ count. (1 ≤ count) × (distance ≡ pos count -ℤ pos 1)) }
+{
+    if distance < 0 {
+        return Err(FaultKind::BadValue);
+    }
+    if distance >= 4_294_967_295 {
         return Err(FaultKind::BadValue);
     }
     Ok(distance as u32 + 1)
@@ -142,22 +158,4 @@ fn part_of_the_way(a: Frac, b: Frac, unit: Frac) -> Result<Frac, FaultKind>
     let way = exact_difference(b, a)?;
     let part = exact_product(way, unit)?;
     exact_sum(a, part)
-}
-
-fn exact_difference(a: Frac, b: Frac) -> Result<Frac, FaultKind>
-    ensures { result ≡ exact_difference a b }
-{
-    match a.sub(b) {
-        Ok(difference) => Ok(difference),
-        Err(_) => Err(FaultKind::Overflow),
-    }
-}
-
-fn exact_product(a: Frac, b: Frac) -> Result<Frac, FaultKind>
-    ensures { result ≡ exact_product a b }
-{
-    match a.mul(b) {
-        Ok(product) => Ok(product),
-        Err(_) => Err(FaultKind::Overflow),
-    }
 }

@@ -1,3 +1,5 @@
+//! The rows of the call table, and the function of each.
+
 ghost use Rattle.std.specs.Prelude.{◌≡◌, ◌<◌};
 ghost use Rattle.vt_table.specs.Calls.{call_at};
 ghost use Rattle.vt_value.specs.Answers.{Gives};

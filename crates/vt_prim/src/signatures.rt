@@ -2,12 +2,14 @@
 
 ghost use Rattle.std.specs.Prelude.{◌≡◌, pos, Ok, Err, IfOk, IfErr};
 ghost use Rattle.vt_frac.specs.Fraction.{whole};
-ghost use Rattle.vt_ring.specs.Signatures.{a_number, a_ring, a_whole, perhaps_a_number, perhaps_a_whole, two_numbers, two_wholes};
+ghost use Rattle.vt_ring.specs.Signatures.{a_number, a_ring, a_ring_and_a_whole, a_whole, perhaps_a_number, perhaps_a_whole, two_numbers, two_wholes};
 
+use crate::adding::fraction;
 use crate::arguments::{
-    number_argument, number_or, one, one_or_none, ring_argument, two, whole_argument, whole_or,
+    number_argument, number_or, one, one_or_none, ring_argument, two, whole_or,
 };
 use vt_frac::Frac;
+use vt_ring::whole_argument;
 use vt_value::{FaultKind, Integer, Value};
 
 /// `r`
@@ -16,6 +18,17 @@ pub(crate) fn a_ring(args: &[Value]) -> Result<&[Value], FaultKind>
     ensures err { IfErr result (λ kind. a_ring args.now ≡ Err kind) }
 {
     ring_argument(one(args)?)
+}
+
+/// `r, n`
+pub(crate) fn a_ring_and_a_whole(args: &[Value]) -> Result<(&[Value], i64), FaultKind>
+    ensures ok { IfOk result (λ a. a_ring_and_a_whole args.now ≡ Ok (a.0.now, a.1)) }
+    ensures err { IfErr result (λ kind. a_ring_and_a_whole args.now ≡ Err kind) }
+{
+    let (r, n) = two(args)?;
+    let items = ring_argument(r)?;
+    let number = whole_argument(n)?;
+    Ok((items, number.get()))
 }
 
 /// `n`
@@ -80,8 +93,5 @@ pub(crate) fn integer(number: u32) -> Integer
 pub(crate) fn one_whole() -> Frac
     ensures { result ≡ whole (pos 1) }
 {
-    match Frac::new(1, 1) {
-        Ok(fraction) => fraction,
-        Err(_) => unreachable!(),
-    }
+    fraction(integer(1))
 }

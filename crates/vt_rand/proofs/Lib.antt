@@ -1,4 +1,3 @@
 pub mod DrawLemmas
-pub mod KnownWords
 pub mod Period
 pub mod WordLemmas

@@ -3,8 +3,6 @@
 
 mod laws;
 mod stream;
-#[cfg(test)]
-mod tests;
 
 pub use laws::{draws_add_up, words_fit, words_repeat};
 pub use stream::Stream;

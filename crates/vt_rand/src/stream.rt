@@ -1,3 +1,5 @@
+//! Streams of random words.
+
 ghost use Rattle.std.specs.Prelude.{◌≡◌, ◌+◌, ◌<◌, ◌≤◌, pos};
 ghost use Rattle.vt_frac.specs.Fraction.{over};
 ghost use Rattle.vt_rand.specs.Draw.{after_draws, below_of, child_seed_of, random_stream_of, unit_of};
@@ -87,7 +89,7 @@ impl Stream {
     }
 }
 
-// k/65536 in lowest terms, which always fits
+/// `k/65536` in lowest terms, which always fits
 fn parts_of_65536(k: u16) -> Frac
     ensures { result ≡ over (pos k) 65536 }
 {
@@ -97,7 +99,7 @@ fn parts_of_65536(k: u16) -> Frac
     }
 }
 
-// floor(word * n / 2^32)
+/// `floor(word * n / 2^32)`
 fn scaled(word: u32, n: u32) -> u32
     requires { 1 ≤ n }
     ensures value { result ≡ below_of word n }

@@ -17,12 +17,6 @@ gives_all answer (Ok value) ok g = g
 gives_all answer (Err (Fault kind)) ok g = g
 gives_all answer (Err NoMemory) ok g = ok
 
-pub and_then-ok : {A B : Type 0} (answer : Result A FaultKind) (next : A → Result B FaultKind) (value : A) → answer ≡ Ok value → and_then answer next ≡ next value
-and_then-ok answer next value h = ap (λ a. and_then a next) h
-
-pub and_then-err : {A B : Type 0} (answer : Result A FaultKind) (next : A → Result B FaultKind) (kind : FaultKind) → answer ≡ Err kind → and_then answer next ≡ Err kind
-and_then-err answer next kind h = ap (λ a. and_then a next) h
-
 -- what a good answer goes back to
 pub good_first : {A B : Type 0} (answer : Result A FaultKind) (next : A → Result B FaultKind) → IsOk (and_then answer next) → IsOk answer
 good_first (Ok value) next h = refl

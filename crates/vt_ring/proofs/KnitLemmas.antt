@@ -11,7 +11,7 @@ use Rattle.vt_value.specs.Kinds.{whole_of}
 use Rattle.vt_ring.specs.Answers.{and_then, all_of}
 use Rattle.vt_ring.specs.Arguments.{whole_argument}
 use Rattle.vt_ring.specs.Building.{in_pairs, counted, run_of, runs_of, copies_of, knit_of}
-use Rattle.vt_ring.specs.Knitting.{count_or_zero, knitted}
+use Rattle.vt_ring.specs.private.Knitting.{count_or_zero, knitted}
 use Rattle.vt_ring.specs.Limits.{within_limits}
 use Rattle.vt_ring.proofs.AnswerLemmas.{and_then_inverse}
 
@@ -56,7 +56,7 @@ same_lists f g h each (x ∷ xs) ys e =
     let first = and_then_inverse (f x) (λ value. and_then (all_of (map f xs)) (λ values. Ok (value ∷ values))) ys e in
     let others = and_then_inverse (all_of (map f xs)) (λ values. Ok (first.0 ∷ values)) ys first.2 in
     let made : first.0 ∷ others.0 ≡ ys = let z : Ok (first.0 ∷ others.0) ≡ Ok ys = others.2 in cc in
-    ap (flat_map h) (sym made) ∙ ap (λ front. front ++ flat_map h others.0) (each x first.0 first.1) ∙ ap (λ back. g x ++ back) (same_lists f g h each xs others.0 others.1)
+    ap (flat_map h) (sym made) ∙ ap (λ prefix. prefix ++ flat_map h others.0) (each x first.0 first.1) ∙ ap (λ back. g x ++ back) (same_lists f g h each xs others.0 others.1)
 
 -- the copies of a pair
 abbrev pub pair_copies : Value × Value → List Value
@@ -99,26 +99,12 @@ even arguments answer h e = ap (λ b. cond b (and_then (runs_of (in_pairs argume
 pub knit_good : (arguments : List Value) → length arguments % 2 ≡ 0 → IsOk (runs_of (in_pairs arguments)) → knit_of arguments ≡ within_limits (knitted arguments)
 knit_good arguments h ok = even arguments (within_limits (knitted arguments)) h (within_runs arguments (runs_of (in_pairs arguments)) refl ok)
 
-pub knit_bad : (arguments : List Value) (kind : FaultKind) → length arguments % 2 ≡ 0 → runs_of (in_pairs arguments) ≡ Err kind → knit_of arguments ≡ Err kind
-knit_bad arguments kind h e = even arguments (Err kind) h (ap (λ a. and_then a (λ runs. within_limits (flat_map copies_of runs))) e)
-
 -- the first two of a list, and the rest
-pub two_front : (xs : List Value) (first second : Value) → 2 ≤ length xs → first ≡ get_or xs 0 first → second ≡ get_or xs 1 second → xs ≡ first ∷ second ∷ take (length xs - 2) (drop 2 xs)
-two_front [] first second h a b = absurd (omega arith)
-two_front (x ∷ []) first second h a b = absurd (omega arith)
-two_front (x ∷ y ∷ rest) first second h a b =
+pub first_two : (xs : List Value) (first second : Value) → 2 ≤ length xs → first ≡ get_or xs 0 first → second ≡ get_or xs 1 second → xs ≡ first ∷ second ∷ take (length xs - 2) (drop 2 xs)
+first_two [] first second h a b = absurd (omega arith)
+first_two (x ∷ []) first second h a b = absurd (omega arith)
+first_two (x ∷ y ∷ rest) first second h a b =
     ap (λ zs. x ∷ y ∷ zs) (sym (take_rest (x ∷ y ∷ rest) 2)) ∙ ap (λ v. v ∷ y ∷ take (length (x ∷ y ∷ rest) - 2) (drop 2 (x ∷ y ∷ rest))) (sym a) ∙ ap (λ v. first ∷ v ∷ take (length (x ∷ y ∷ rest) - 2) (drop 2 (x ∷ y ∷ rest))) (sym b)
-
-pub knit_more : (items made left arguments : List Value) (value count : Value) (n : ℕ) → 2 ≤ length left → value ≡ get_or left 0 value → count ≡ get_or left 1 count → n ≡ count_or_zero (whole_of count) → made ≡ items ++ replicate n value → items ++ knitted left ≡ knitted arguments → made ++ knitted (take (length left - 2) (drop 2 left)) ≡ knitted arguments
-knit_more items made left arguments value count n long a b is e h =
-    ap (λ xs. xs ++ knitted (take (length left - 2) (drop 2 left))) (e ∙ ap (λ m. items ++ replicate m value) is)
-    ∙ append_assoc items (replicate (count_or_zero (whole_of count)) value) (knitted (take (length left - 2) (drop 2 left)))
-    ∙ ap (λ xs. items ++ knitted xs) (sym (two_front left value count long a b)) ∙ h
-
-pub knit_end : (left : List Value) → length left < 2 → knitted left ≡ []
-knit_end [] h = refl
-knit_end (value ∷ []) h = refl
-knit_end (value ∷ count ∷ rest) h = absurd (omega arith)
 
 pub pairs_end : (left : List Value) → length left < 2 → in_pairs left ≡ []
 pairs_end [] h = refl
@@ -129,12 +115,12 @@ pub fault_more : (left : List Value) (value count : Value) (n : ℤ) (bad worse 
 fault_more left value count n bad worse fault long a b kind is h =
     ap (λ w. fault_of w (in_pairs (take (length left - 2) (drop 2 left)))) is
     ∙ sym (fault_step bad value count (in_pairs (take (length left - 2) (drop 2 left))) n kind)
-    ∙ ap (λ xs. fault_of bad (in_pairs xs)) (sym (two_front left value count long a b)) ∙ h
+    ∙ ap (λ xs. fault_of bad (in_pairs xs)) (sym (first_two left value count long a b)) ∙ h
 
 pub fault_met : (left : List Value) (value count : Value) (bad : Bool) (kind : FaultKind) (fault : Option FaultKind) → 2 ≤ length left → value ≡ get_or left 0 value → count ≡ get_or left 1 count → whole_argument count ≡ Err kind → fault_of bad (in_pairs left) ≡ fault → Some kind ≡ fault
 fault_met left value count bad kind fault long a b e h =
     sym (fault_here bad value count (in_pairs (take (length left - 2) (drop 2 left))) kind e)
-    ∙ ap (λ xs. fault_of bad (in_pairs xs)) (sym (two_front left value count long a b)) ∙ h
+    ∙ ap (λ xs. fault_of bad (in_pairs xs)) (sym (first_two left value count long a b)) ∙ h
 
 pub fault_end : (left : List Value) (bad : Bool) (fault : Option FaultKind) → length left < 2 → fault_of bad (in_pairs left) ≡ fault → fault_of bad [] ≡ fault
 fault_end left bad fault h e = ap (fault_of bad) (sym (pairs_end left h)) ∙ e

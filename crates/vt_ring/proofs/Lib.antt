@@ -1,9 +1,13 @@
 pub mod AnswerLemmas
 pub mod CallExamples
+pub mod Elements
 pub mod KnitLemmas
 pub mod LimitLemmas
+pub mod limits
 pub mod RotationLemmas
+pub mod RoundingLemmas
 pub mod SeriesLemmas
 pub mod ShuffleLemmas
+pub mod SortLemmas
 pub mod TruthLemmas
 pub mod TurnLemmas

@@ -9,8 +9,8 @@ use Rattle.vt_value.specs.Arithmetic.{are_within}
 use Rattle.vt_value.specs.Sizes.{size_of, sizes_of}
 use Rattle.vt_value.proofs.Layers.{sizes-append}
 use Rattle.vt_value.specs.Kinds.{whole_of}
-use Rattle.vt_ring.specs.Knitting.{count_or_zero, knitted}
-use Rattle.vt_ring.proofs.KnitLemmas.{two_front}
+use Rattle.vt_ring.specs.private.Knitting.{count_or_zero, knitted}
+use Rattle.vt_ring.proofs.KnitLemmas.{first_two}
 use Rattle.vt_ring.specs.Repeating.{stretched, repeated}
 
 -- at most 2^64 - 1
@@ -76,12 +76,12 @@ sizes-repeated (suc n) items = sizes-append items (repeated n items) ∙ omega (
 -- one more value of `knit`
 pub knit_count : (left : List Value) (value count : Value) (before after n total : ℕ) → 2 ≤ length left → value ≡ get_or left 0 value → count ≡ get_or left 1 count → n ≡ count_or_zero (whole_of count) → after ≡ capped (before + n) → capped (before + length (knitted left)) ≡ total → capped (after + length (knitted (take (length left - 2) (drop 2 left)))) ≡ total
 knit_count left value count before after n total long a b is sum h =
-    let split : length (knitted left) ≡ count_or_zero (whole_of count) + length (knitted (take (length left - 2) (drop 2 left))) = ap (λ xs. length (knitted xs)) (two_front left value count long a b) ∙ length-append (replicate (count_or_zero (whole_of count)) value) (knitted (take (length left - 2) (drop 2 left))) ∙ ap (λ m. m + length (knitted (take (length left - 2) (drop 2 left)))) (length-replicate (count_or_zero (whole_of count)) value) in
+    let split : length (knitted left) ≡ count_or_zero (whole_of count) + length (knitted (take (length left - 2) (drop 2 left))) = ap (λ xs. length (knitted xs)) (first_two left value count long a b) ∙ length-append (replicate (count_or_zero (whole_of count)) value) (knitted (take (length left - 2) (drop 2 left))) ∙ ap (λ m. m + length (knitted (take (length left - 2) (drop 2 left)))) (length-replicate (count_or_zero (whole_of count)) value) in
     omega arith
 
 pub knit_size : (left : List Value) (value count : Value) (before after n size product total : ℕ) → 2 ≤ length left → value ≡ get_or left 0 value → count ≡ get_or left 1 count → n ≡ count_or_zero (whole_of count) → size ≡ capped (size_of value) → product ≡ capped (size * n) → after ≡ capped (before + product) → capped (before + sizes_of (knitted left)) ≡ total → capped (after + sizes_of (knitted (take (length left - 2) (drop 2 left)))) ≡ total
 knit_size left value count before after n size product total long a b is one many sum h =
-    let split : sizes_of (knitted left) ≡ size_of value * count_or_zero (whole_of count) + sizes_of (knitted (take (length left - 2) (drop 2 left))) = ap (λ xs. sizes_of (knitted xs)) (two_front left value count long a b) ∙ sizes-append (replicate (count_or_zero (whole_of count)) value) (knitted (take (length left - 2) (drop 2 left))) ∙ ap (λ m. m + sizes_of (knitted (take (length left - 2) (drop 2 left)))) (sizes-replicate (count_or_zero (whole_of count)) value) in
+    let split : sizes_of (knitted left) ≡ size_of value * count_or_zero (whole_of count) + sizes_of (knitted (take (length left - 2) (drop 2 left))) = ap (λ xs. sizes_of (knitted xs)) (first_two left value count long a b) ∙ sizes-append (replicate (count_or_zero (whole_of count)) value) (knitted (take (length left - 2) (drop 2 left))) ∙ ap (λ m. m + sizes_of (knitted (take (length left - 2) (drop 2 left)))) (sizes-replicate (count_or_zero (whole_of count)) value) in
     let all : product ≡ capped (size_of value * count_or_zero (whole_of count)) = many ∙ ap (λ m. capped (m * n)) one ∙ capped_product (size_of value) n ∙ ap (λ m. capped (size_of value * m)) is in
     knit_sum before after product total (size_of value * count_or_zero (whole_of count)) (sizes_of (knitted (take (length left - 2) (drop 2 left)))) (sizes_of (knitted left)) split all sum h
   where

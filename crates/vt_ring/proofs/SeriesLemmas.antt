@@ -11,7 +11,7 @@ use Rattle.vt_ring.specs.Answers.{and_then, all_of}
 use Rattle.vt_ring.specs.Building.{number_value, range_counted, range_number}
 use Rattle.vt_ring.specs.Exact.{is_negative}
 use Rattle.vt_ring.specs.Items.{indices}
-use Rattle.vt_ring.specs.Series.{range_series, series_values}
+use Rattle.vt_ring.specs.private.Series.{range_series, series_values}
 use Rattle.vt_ring.proofs.AnswerLemmas.{first_fault, good_more, mapped_more}
 
 more : {A : Type 0} (f : ℕ → Result A FaultKind) (i : ℕ) (value : A) → f i ≡ Ok value → map f (indices (i + 1)) ≡ map f (indices i) ++ Ok value ∷ []
@@ -27,9 +27,9 @@ pub index_fault : {A : Type 0} (f : ℕ → Result A FaultKind) (i n : ℕ) (kin
 index_fault {A = A} f i n kind below h e =
     let bad : Result A FaultKind = Err kind in
     let long : length (map f (indices n)) ≡ n = length-map-range_with_len f 0 n in
-    let front : take i (map f (indices n)) ≡ map f (indices i) = take-map-range_with_len f 0 n i (omega arith) in
+    let prefix : take i (map f (indices n)) ≡ map f (indices i) = take-map-range_with_len f 0 n i (omega arith) in
     let at : get_or (map f (indices n)) i (Err kind) ≡ f i = get_or-map-range_with_len f 0 n i i (Err kind) below (omega arith) in
-    ap all_of (sym (take-append-drop i (map f (indices n))) ∙ ap (λ answers. answers ++ drop i (map f (indices n))) front ∙ ap (λ answers. map f (indices i) ++ answers) (drop_more (map f (indices n)) i (Err kind) (omega arith) ∙ ap (λ a. a ∷ drop (i + 1) (map f (indices n))) (at ∙ e)))
+    ap all_of (sym (take-append-drop i (map f (indices n))) ∙ ap (λ answers. answers ++ drop i (map f (indices n))) prefix ∙ ap (λ answers. map f (indices i) ++ answers) (drop_more (map f (indices n)) i (Err kind) (omega arith) ∙ ap (λ a. a ∷ drop (i + 1) (map f (indices n))) (at ∙ e)))
     ∙ first_fault (map f (indices i)) (drop (i + 1) (map f (indices n))) kind h
 
 pub item_good : {X A : Type 0} (f : X → Result A FaultKind) (xs : List X) (i : ℕ) (x : X) (value : A) → i < length xs → x ≡ get_or xs i x → IsOk (all_of (map f (take i xs))) → f x ≡ Ok value → IsOk (all_of (map f (take (i + 1) xs)))
@@ -53,6 +53,3 @@ pub range_values : (start way step : Fraction) (wholes : Bool) (count : ℕ) →
 range_values start way step wholes count h =
     ap (λ b. and_then (cond b (all_of (map (range_number start step (is_negative way)) (indices count))) (Err TooLarge)) (λ numbers. Ok (map (number_value wholes) numbers))) (le-leb count 4096 h)
     ∙ series_of_range start step (is_negative way) count wholes
-
-pub range_large : (start way step : Fraction) (wholes : Bool) (count : ℕ) → nat_le count 4096 ≡ false → range_counted start way step wholes count ≡ Err TooLarge
-range_large start way step wholes count h = ap (λ b. and_then (cond b (all_of (map (range_number start step (is_negative way)) (indices count))) (Err TooLarge)) (λ numbers. Ok (map (number_value wholes) numbers))) h

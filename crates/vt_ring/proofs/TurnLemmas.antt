@@ -49,15 +49,3 @@ moved_fit count n h all = sums_fit n 0 count (λ i low high. all i (omega arith)
 
 pub moved_over : (count : ℕ) (n : ℤ) (i : ℕ) → i < count → 2 ^ 63 ≤ unsigned_abs (pos i +ℤ n) → moved_indices count n ≡ Err Overflow
 moved_over count n i below h = sum_over n 0 count i (omega arith) (omega arith) h
-
--- a place below 0, counted from the end
-pub wrapped_below : (index : ℤ) (count : ℕ) → index <ℤ pos 0 → wrapped index count ≡ count - 1 - (unsigned_abs index - 1) % count
-wrapped_below (pos n) count h = absurd (omega (arith, ints))
-wrapped_below (negsuc n) count h = let e : n ≡ suc n - 1 = omega arith in ap (λ k. count - 1 - k % count) e
-
-pub turned_none : (items : List Value) (k : ℕ) → items ≡ [] → turned items k ≡ []
-turned_none items k h = ap (λ xs. turned xs k) h ∙ none k
-  where
-    none : (k : ℕ) → turned [] k ≡ []
-    none zero = refl
-    none (suc k) = refl

@@ -1,13 +1,16 @@
 -- The pure and random calls. The project's own.
-use Rattle.std.specs.Prelude.{◌≡◌, ℕ, List, Option, Some, None, false, Err, slice_get}
+use Rattle.std.specs.Prelude.{◌≡◌, ℕ, List, Option, Some, None, false, Ok, Err, slice_get}
 use Rattle.std.specs.Option.{option_map}
+use Rattle.vt_rand.specs.Draw.{RandomStream}
 use Rattle.vt_table.specs.Calls.{calls}
 use Rattle.vt_table.specs.declared.calls.CallName.{CallName}
 use Rattle.vt_table.specs.declared.calls.CallName.TheVariants.{Abs, Bools, Butlast, Ceil, Choose, Chord, Count, Dec, Dice, Drop, DropLast, Even, First, Floor, Inc, Knit, Last, Length, Line, Max, Min, Mirror, Note, Octs, Odd, OneIn, Pick, Rand, RandI, Range, Reflect, Repeat, Reverse, Ring, Rotate, Round, Rrand, RrandI, Scale, Shuffle, Size, Sort, Spread, Stretch, Sum, Take, TakeLast}
 use Rattle.vt_value.specs.declared.fault.FaultKind.TheVariants.{UnknownName}
 use Rattle.vt_value.specs.declared.value.Value.{Value}
+use Rattle.vt_value.specs.Limits.{IsWithin, AreWithin}
 use Rattle.vt_ring.specs.Called.{Called, undrawn}
 use Rattle.vt_ring.specs.Signatures.{Options}
+use Rattle.vt_ring.specs.Streams.{words_from}
 use Rattle.vt_ring.specs.CountCalls.{count_call, length_call, size_call, sort_call, sum_call}
 use Rattle.vt_ring.specs.MakeCalls.{bools_call, knit_call, line_call, range_call, ring_call, spread_call}
 use Rattle.vt_ring.specs.NoteCalls.{chord_call, note_call, octs_call, scale_call}
@@ -69,6 +72,10 @@ value_of_call Sum args options words = undrawn (sum_call args)
 value_of_call Take args options words = undrawn (take_call args)
 value_of_call TakeLast args options words = undrawn (take_last_call args)
 value_of_call _ args options words = undrawn (Err UnknownName)
+
+-- Every value that a call gives is within the limits of the language, where its arguments are.
+abbrev pub CallsGiveWithin : Type 0
+CallsGiveWithin = (name : CallName) (args : List Value) (options : Options) (stream : RandomStream) (value : Value) → AreWithin args → (value_of_call name args options (words_from stream)).answer ≡ Ok value → IsWithin value
 
 -- what the call comes to whose row has this number
 abbrev pub value_of_row : Option CallName → List Value → Options → (ℕ → ℕ) → Called

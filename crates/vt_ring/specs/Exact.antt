@@ -1,5 +1,5 @@
 -- Arithmetic of a call on exact fractions: each operation gives the exact result, or overflow where that does not fit. The project's own.
-use Rattle.std.specs.Prelude.{ℕ, ◌+◌, ◌-◌, ◌/◌, pos, unsigned_abs, int_lt, Bool, cond, Result, Ok, Err}
+use Rattle.std.specs.Prelude.{◌≡◌, ℕ, ◌+◌, ◌-◌, ◌/◌, ◌<◌, ℤ, pos, ◌*ℤ◌, ◌≤ℤ◌, unsigned_abs, int_lt, Bool, false, cond, Result, Ok, Err}
 use Rattle.vt_frac.specs.Arithmetic.{sum_of, difference_of, product_of, quotient_of}
 use Rattle.vt_frac.specs.Fraction.{Fraction, fits}
 use Rattle.vt_value.specs.declared.fault.FaultKind.{FaultKind}
@@ -35,3 +35,16 @@ is_negative f = int_lt f.numer (pos 0)
 -- the least whole number not below a fraction of at least 0
 abbrev pub rounded_up : Fraction → ℕ
 rounded_up f = (unsigned_abs f.numer + (f.denom - 1)) / f.denom
+
+-- the fraction is not above the whole number: a / b is at most n where a is at most n * b
+abbrev pub IsAtMost : Fraction → ℤ → Type 0
+IsAtMost f n = f.numer ≤ℤ (n *ℤ pos f.denom)
+
+-- the least whole number that the fraction is not above
+pub record IsLeastNotBelow (f : Fraction) (n : ℤ) : Type 0 where
+  pub not_below : IsAtMost f n
+  pub least : (m : ℤ) → IsAtMost f m → n ≤ℤ m
+
+-- What `rounded_up` gives for a fraction of at least 0 is the least whole number not below it.
+abbrev pub RoundedUpIsLeast : Type 0
+RoundedUpIsLeast = (f : Fraction) → 0 < f.denom → is_negative f ≡ false → IsLeastNotBelow f (pos (rounded_up f))

@@ -6,16 +6,15 @@ pub mod Called
 pub mod CountCalls
 pub mod Exact
 pub mod Items
-pub mod Knitting
 pub mod Limits
 pub mod MakeCalls
 pub mod NoteCalls
 pub mod NumberCalls
 pub mod PartCalls
 pub mod Parts
+pub mod private
 pub mod RandomCalls
 pub mod Repeating
-pub mod Series
 pub mod Shuffling
 pub mod Signatures
 pub mod Streams

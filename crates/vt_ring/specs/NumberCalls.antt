@@ -1,5 +1,5 @@
 -- The calls on numbers. The project's own, after Ruby.
-use Rattle.std.specs.Prelude.{Bool, ◌%◌, ◌==◌, not, ℤ, pos, neg_ℤ, unsigned_abs, if◌then◌else◌, List, Result, Ok}
+use Rattle.std.specs.Prelude.{◌<◌, Bool, ◌%◌, ◌==◌, not, ℤ, pos, neg_ℤ, unsigned_abs, if◌then◌else◌, List, Result, Ok}
 use Rattle.std.specs.Int.{int_div_euclid}
 use Rattle.vt_frac.specs.Fraction.{Fraction}
 use Rattle.vt_frac.specs.Arithmetic.{floor_of}
@@ -11,7 +11,7 @@ use Rattle.vt_value.specs.declared.value.Value.TheVariants.{Whole, Bool as Truth
 use Rattle.vt_value.specs.Arithmetic.{arith_of}
 use Rattle.vt_value.specs.Comparison.{compare_of}
 use Rattle.vt_ring.specs.Answers.{and_then}
-use Rattle.vt_ring.specs.Exact.{exact_sum}
+use Rattle.vt_ring.specs.Exact.{IsLeastNotBelow, exact_sum}
 use Rattle.vt_ring.specs.Signatures.{one_of, two_of, a_number, a_whole}
 
 -- `min N, N`: the second where it is below the first, and else the first
@@ -46,6 +46,10 @@ dec_call args = and_then (one_of args) (λ n. arith_of Sub n (Whole (pos 1)))
 -- the least whole number not below the value: the greatest not above it, seen from the other side of 0
 unfoldable pub ceiling_of : Fraction → ℤ
 ceiling_of f = neg_ℤ (int_div_euclid (neg_ℤ f.numer) (pos f.denom))
+
+-- It is the least whole number not below the value, of whatever sign that is.
+abbrev pub CeilingIsLeast : Type 0
+CeilingIsLeast = (f : Fraction) → 0 < f.denom → IsLeastNotBelow f (ceiling_of f)
 
 abbrev pub half : Fraction
 half = record { numer = pos 1; denom = 2 }

@@ -2,13 +2,13 @@
 
 ghost use Rattle.std.specs.Prelude.{◌≡◌, ◌||◌, pos, int_lt, Some};
 ghost use Rattle.vt_ring.specs.Arguments.{between, count_from, whole_argument};
-ghost use Rattle.vt_ring.specs.Knitting.{count_or_zero};
+ghost use Rattle.vt_ring.specs.private.Knitting.{count_or_zero};
 ghost use Rattle.vt_value.specs.Kinds.{whole_of};
 
 use vt_value::{FaultKind, Integer, Value};
 
 /// The whole number that a value is, or `WrongKind`.
-pub(crate) fn whole_argument(value: &Value) -> Result<Integer, FaultKind>
+pub fn whole_argument(value: &Value) -> Result<Integer, FaultKind>
     ensures { result ≡ whole_argument value.now }
 {
     match value {

@@ -1,3 +1,5 @@
+//! The item of a ring at an index.
+
 ghost use Rattle.std.specs.Prelude.{◌≡◌, ◌<◌, Ok, Err, MatchResult};
 ghost use Rattle.vt_ring.specs.Items.{item_at, wrapped};
 

@@ -28,9 +28,9 @@ fn push_backwards(alloc: Global, items: &mut Items, values: &[Value]) -> Result<
     ensures { OnOk result (items.new ≡ items.old ++ reverse values.now) }
 {
     let mut left = values;
-    while let Some((last, front)) = left.split_last() {
+    while let Some((last, prefix)) = left.split_last() {
         items.push(last.copy(alloc)?)?;
-        left = front;
+        left = prefix;
     }
     Ok(())
 }
@@ -51,45 +51,45 @@ pub(crate) fn push_times(
 }
 
 /// The items of both, or `TooLarge`.
-pub(crate) fn joined(alloc: Global, front: &[Value], back: &[Value]) -> Result<Items, ValueFault>
-    ensures { Gives (within_limits (front.now ++ back.now)) result }
+pub(crate) fn joined(alloc: Global, prefix: &[Value], rest: &[Value]) -> Result<Items, ValueFault>
+    ensures { Gives (within_limits (prefix.now ++ rest.now)) result }
 {
-    if !is_within(front, back) {
+    if !is_within(prefix, rest) {
         return Err(ValueFault::Fault(FaultKind::TooLarge));
     }
-    let items = copies_of_both(alloc, front, back)?;
+    let items = copies_of_both(alloc, prefix, rest)?;
     Ok(items)
 }
 
-fn copies_of_both(alloc: Global, front: &[Value], back: &[Value]) -> Result<Items, NoMemory>
-    ensures { IfOk result (λ items. items ≡ front.now ++ back.now) }
+fn copies_of_both(alloc: Global, prefix: &[Value], rest: &[Value]) -> Result<Items, NoMemory>
+    ensures { IfOk result (λ items. items ≡ prefix.now ++ rest.now) }
 {
     let mut items = Items::new(alloc);
-    push_copies(alloc, &mut items, front)?;
-    push_copies(alloc, &mut items, back)?;
+    push_copies(alloc, &mut items, prefix)?;
+    push_copies(alloc, &mut items, rest)?;
     Ok(items)
 }
 
-/// The items of the front, and then those of the back from its last to its first, or `TooLarge`.
+/// The items of the prefix, and then the others from its last to its first, or `TooLarge`.
 pub(crate) fn joined_backwards(
     alloc: Global,
-    front: &[Value],
-    back: &[Value],
+    prefix: &[Value],
+    rest: &[Value],
 ) -> Result<Items, ValueFault>
-    ensures { Gives (within_limits (front.now ++ reverse back.now)) result }
+    ensures { Gives (within_limits (prefix.now ++ reverse rest.now)) result }
 {
-    if !is_within_backwards(front, back) {
+    if !is_within_backwards(prefix, rest) {
         return Err(ValueFault::Fault(FaultKind::TooLarge));
     }
-    let items = there_and_back(alloc, front, back)?;
+    let items = there_and_back(alloc, prefix, rest)?;
     Ok(items)
 }
 
-fn there_and_back(alloc: Global, front: &[Value], back: &[Value]) -> Result<Items, NoMemory>
-    ensures { IfOk result (λ items. items ≡ front.now ++ reverse back.now) }
+fn there_and_back(alloc: Global, prefix: &[Value], rest: &[Value]) -> Result<Items, NoMemory>
+    ensures { IfOk result (λ items. items ≡ prefix.now ++ reverse rest.now) }
 {
     let mut items = Items::new(alloc);
-    push_copies(alloc, &mut items, front)?;
-    push_backwards(alloc, &mut items, back)?;
+    push_copies(alloc, &mut items, prefix)?;
+    push_backwards(alloc, &mut items, rest)?;
     Ok(items)
 }

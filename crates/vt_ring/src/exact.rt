@@ -7,31 +7,36 @@ ghost use Rattle.vt_ring.specs.Exact.{absolute_of, exact, exact_difference, exac
 use vt_frac::{Frac, FracFault};
 use vt_value::FaultKind;
 
-pub(crate) fn sum(f: Frac, g: Frac) -> Result<Frac, FaultKind>
+/// f + g, or `Overflow` where that does not fit.
+pub fn exact_sum(f: Frac, g: Frac) -> Result<Frac, FaultKind>
     ensures { result ≡ exact_sum f g }
 {
     exact(f.add(g))
 }
 
-pub(crate) fn difference(f: Frac, g: Frac) -> Result<Frac, FaultKind>
+/// f - g, or `Overflow` where that does not fit.
+pub fn exact_difference(f: Frac, g: Frac) -> Result<Frac, FaultKind>
     ensures { result ≡ exact_difference f g }
 {
     exact(f.sub(g))
 }
 
-pub(crate) fn product(f: Frac, g: Frac) -> Result<Frac, FaultKind>
+/// f * g, or `Overflow` where that does not fit.
+pub fn exact_product(f: Frac, g: Frac) -> Result<Frac, FaultKind>
     ensures { result ≡ exact_product f g }
 {
     exact(f.mul(g))
 }
 
-pub(crate) fn quotient(f: Frac, g: Frac) -> Result<Frac, FaultKind>
+/// f / g, or `Overflow` where that does not fit.
+pub(crate) fn exact_quotient(f: Frac, g: Frac) -> Result<Frac, FaultKind>
     requires { g.numer ≢ pos 0 }
     ensures { result ≡ exact_quotient f g }
 {
     exact(f.div(g))
 }
 
+/// What an operation answers, with the language's fault.
 fn exact(answer: Result<Frac, FracFault>) -> Result<Frac, FaultKind>
     ensures { (f : Fraction) → answer ≡ fitted f → result ≡ exact f }
 {
@@ -59,6 +64,7 @@ pub(crate) fn absolute(f: Frac) -> Frac
     if is_negative(f) { negated(f) } else { f }
 }
 
+/// The size of a fraction below 0.
 fn negated(f: Frac) -> Frac
     requires { IsTrue (is_negative f) }
     ensures { result ≡ absolute_of f }

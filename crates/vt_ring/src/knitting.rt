@@ -1,6 +1,8 @@
+//! The call `knit`.
+
 ghost use Rattle.std.specs.Prelude.{◌≡◌, IsOk, Err, IfOk, MatchResult};
 ghost use Rattle.vt_ring.specs.Building.{in_pairs, knit_of, runs_of};
-ghost use Rattle.vt_ring.specs.Knitting.{knitted};
+ghost use Rattle.vt_ring.specs.private.Knitting.{knitted};
 ghost use Rattle.vt_ring.specs.Limits.{within_limits};
 ghost use Rattle.vt_value.specs.Answers.{Gives};
 

@@ -17,15 +17,17 @@ mod repeating;
 mod series;
 mod shuffling;
 mod spreading;
-#[cfg(test)]
-mod tests;
 mod truths;
 mod turning;
 mod within;
 
+pub use arguments::whole_argument;
 pub use at::ring_at;
+pub use exact::{exact_difference, exact_product, exact_sum};
 pub use knitting::knit;
-pub use laws::rotates_by_index;
+pub use laws::{
+    calls_give_within, ceiling_is_least, rotates_by_index, rounded_up_is_least, sort_is_in_order,
+};
 pub use lines::line;
 pub use parts::{drop_first, take};
 pub use ranges::range;

@@ -1,9 +1,11 @@
+//! The call `line`.
+
 ghost use Rattle.std.specs.Prelude.{◌≡◌, ◌≤◌};
 ghost use Rattle.vt_ring.specs.Building.{line_counted, line_of};
 ghost use Rattle.vt_value.specs.Answers.{Gives};
 
 use crate::arguments::between;
-use crate::exact::difference;
+use crate::exact::exact_difference;
 use crate::series::{Series, values};
 use std::alloc::Global;
 use vt_frac::Frac;
@@ -24,7 +26,7 @@ fn line_counted(alloc: Global, start: Frac, finish: Frac, count: u64) -> Result<
     requires few { count ≤ 4096 }
     ensures { Gives (line_counted start finish count) result }
 {
-    match difference(finish, start) {
+    match exact_difference(finish, start) {
         Err(kind) => Err(ValueFault::Fault(kind)),
         Ok(way) => values(alloc, &Series::Line(start, way, count), count, false),
     }

@@ -1,3 +1,5 @@
+//! The calls `take` and `drop`.
+
 ghost use Rattle.std.specs.Prelude.{◌≡◌, drop, take};
 ghost use Rattle.vt_ring.specs.Parts.{drop_of, take_of};
 ghost use Rattle.vt_value.specs.Answers.{Gives};
@@ -13,7 +15,7 @@ pub fn take(alloc: Global, items: &[Value], n: i64) -> Result<Items, ValueFault>
 {
     match count_from(n) {
         Err(kind) => Err(ValueFault::Fault(kind)),
-        Ok(count) => joined(alloc, front_of(items, count), &[]),
+        Ok(count) => joined(alloc, prefix_of(items, count), &[]),
     }
 }
 
@@ -27,7 +29,7 @@ pub fn drop_first(alloc: Global, items: &[Value], n: i64) -> Result<Items, Value
     }
 }
 
-fn front_of(items: &[Value], count: u64) -> &[Value]
+fn prefix_of(items: &[Value], count: u64) -> &[Value]
     ensures { result.now ≡ take count items.now }
 {
     &items[..(count as usize).min(items.len())]

@@ -1,10 +1,14 @@
+//! The call `range`.
+
 ghost use Rattle.std.specs.Prelude.{◌≡◌, IsTrue};
 ghost use Rattle.vt_ring.specs.Building.{range_by, range_counted, range_of, steps_of};
 ghost use Rattle.vt_ring.specs.Exact.{is_positive};
-ghost use Rattle.vt_ring.specs.Series.{HasSteps, range_series};
+ghost use Rattle.vt_ring.specs.private.Series.{HasSteps, range_series};
 ghost use Rattle.vt_value.specs.Answers.{Gives};
 
-use crate::exact::{absolute, difference, is_negative, is_positive, quotient, rounded_up};
+use crate::exact::{
+    absolute, exact_difference, exact_quotient, is_negative, is_positive, rounded_up,
+};
 use crate::series::{Series, values};
 use std::alloc::Global;
 use vt_frac::Frac;
@@ -24,7 +28,7 @@ pub fn range(
     if !is_positive(step) {
         return Err(ValueFault::Fault(FaultKind::BadValue));
     }
-    match difference(finish, start) {
+    match exact_difference(finish, start) {
         Err(kind) => Err(ValueFault::Fault(kind)),
         Ok(way) => range_by(alloc, start, way, step, whole),
     }
@@ -52,7 +56,7 @@ fn steps_of(way: Frac, step: Frac) -> Result<u64, FaultKind>
     requires { IsTrue (is_positive step) }
     ensures { result ≡ steps_of way step }
 {
-    match quotient(absolute(way), step) {
+    match exact_quotient(absolute(way), step) {
         Err(kind) => Err(kind),
         Ok(steps) => Ok(rounded_up(steps)),
     }

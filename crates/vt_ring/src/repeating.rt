@@ -1,3 +1,5 @@
+//! The calls `stretch` and `repeat`.
+
 ghost use Rattle.std.specs.Prelude.{◌≡◌, IfOk, flat_map, replicate};
 ghost use Rattle.vt_ring.specs.Repeating.{repeat_of, repeated, stretch_of, stretched};
 ghost use Rattle.vt_ring.specs.Limits.{within_limits};

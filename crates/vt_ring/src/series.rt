@@ -5,10 +5,10 @@ ghost use Rattle.vt_frac.specs.Fraction.{whole};
 ghost use Rattle.vt_ring.specs.Answers.{MayGive, and_then};
 ghost use Rattle.vt_ring.specs.Building.{line_number, number_value, range_number};
 ghost use Rattle.vt_ring.specs.Exact.{exact_quotient, exact_sum};
-ghost use Rattle.vt_ring.specs.Series.{HasSteps, series_number, series_numbers, series_values};
+ghost use Rattle.vt_ring.specs.private.Series.{HasSteps, series_number, series_numbers, series_values};
 ghost use Rattle.vt_value.specs.Answers.{Gives};
 
-use crate::exact::{difference, product, quotient, sum, whole};
+use crate::exact::{exact_difference, exact_product, exact_quotient, exact_sum, whole};
 use std::alloc::Global;
 use vt_frac::Frac;
 use vt_value::{FaultKind, Integer, Items, Value, ValueFault};
@@ -84,9 +84,9 @@ fn upwards(start: Frac, step: Frac, i: u64) -> Result<Frac, FaultKind>
     requires { i < 4096 }
     ensures { result ≡ range_number start step false i }
 {
-    match product(whole(i), step) {
+    match exact_product(whole(i), step) {
         Err(kind) => Err(kind),
-        Ok(way) => sum(start, way),
+        Ok(way) => exact_sum(start, way),
     }
 }
 
@@ -94,9 +94,9 @@ fn downwards(start: Frac, step: Frac, i: u64) -> Result<Frac, FaultKind>
     requires { i < 4096 }
     ensures { result ≡ range_number start step true i }
 {
-    match product(whole(i), step) {
+    match exact_product(whole(i), step) {
         Err(kind) => Err(kind),
-        Ok(way) => difference(start, way),
+        Ok(way) => exact_difference(start, way),
     }
 }
 
@@ -106,7 +106,7 @@ fn on_line(start: Frac, way: Frac, steps: u64, i: u64) -> Result<Frac, FaultKind
     requires few_steps { steps ≤ 4096 }
     ensures { result ≡ line_number start way steps i }
 {
-    match product(whole(i), way) {
+    match exact_product(whole(i), way) {
         Err(kind) => Err(kind),
         Ok(product) => part_of_line(start, product, steps),
     }
@@ -117,9 +117,9 @@ fn part_of_line(start: Frac, product: Frac, steps: u64) -> Result<Frac, FaultKin
     requires few_steps { steps ≤ 4096 }
     ensures { result ≡ and_then (exact_quotient product (whole (pos steps))) (exact_sum start) }
 {
-    match quotient(product, whole(steps)) {
+    match exact_quotient(product, whole(steps)) {
         Err(kind) => Err(kind),
-        Ok(part) => sum(start, part),
+        Ok(part) => exact_sum(start, part),
     }
 }
 

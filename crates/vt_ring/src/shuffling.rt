@@ -1,3 +1,5 @@
+//! The call `shuffle`, over the words that it draws.
+
 ghost use Rattle.std.specs.Prelude.{◌≡◌, ◌+◌, ◌<◌, ◌≤◌, length, IfOk};
 ghost use Rattle.vt_rand.specs.Draw.{below_of};
 ghost use Rattle.vt_ring.specs.Shuffling.{shuffle_of, shuffled_by};

@@ -1,3 +1,5 @@
+//! The call `spread`.
+
 ghost use Rattle.std.specs.Prelude.{◌≡◌, ◌≤◌, IfOk, map};
 ghost use Rattle.vt_ring.specs.Building.{spread_of, spread_value};
 ghost use Rattle.vt_ring.specs.Items.{indices};

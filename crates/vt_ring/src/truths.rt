@@ -1,3 +1,5 @@
+//! The call `bools`.
+
 ghost use Rattle.std.specs.Prelude.{◌≡◌, IsOk, MatchResult, Err, map};
 ghost use Rattle.vt_ring.specs.Answers.{MayGive, all_of};
 ghost use Rattle.vt_ring.specs.Arguments.{whole_argument};

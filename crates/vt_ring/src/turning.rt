@@ -1,3 +1,5 @@
+//! The calls `rotate`, `reverse`, `mirror` and `reflect`.
+
 ghost use Rattle.std.specs.Prelude.{◌≡◌, ◌≤◌, length, drop, reverse, Err, IsOk, MatchResult};
 ghost use Rattle.vt_ring.specs.Limits.{within_limits};
 ghost use Rattle.vt_ring.specs.Turning.{mirror_of, moved_indices, reflect_of, reverse_of, rotate_of, turned};
@@ -42,8 +44,8 @@ fn turned(alloc: Global, items: &[Value], at: usize) -> Result<Items, ValueFault
     requires { at ≤ length items.now }
     ensures { Gives (within_limits (turned items.now at)) result }
 {
-    let (front, back) = items.split_at(at);
-    joined(alloc, back, front)
+    let (prefix, rest) = items.split_at(at);
+    joined(alloc, rest, prefix)
 }
 
 /// The items backwards. `TooLarge` above the limits.
@@ -71,7 +73,7 @@ fn without_last(items: &[Value]) -> &[Value]
     ensures { reverse result.now ≡ drop 1 (reverse items.now) }
 {
     match items.split_last() {
-        Some((_last, front)) => front,
+        Some((_last, prefix)) => prefix,
         None => items,
     }
 }

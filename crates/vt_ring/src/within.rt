@@ -1,7 +1,7 @@
 //! The limits of a ring.
 
 ghost use Rattle.std.specs.Prelude.{◌≡◌, ◌+◌, ◌*◌, ◌++◌, ◌&&◌, length, nat_le, reverse};
-ghost use Rattle.vt_ring.specs.Knitting.{knitted};
+ghost use Rattle.vt_ring.specs.private.Knitting.{knitted};
 ghost use Rattle.vt_ring.specs.Repeating.{repeated, stretched};
 ghost use Rattle.vt_value.specs.Arithmetic.{are_within};
 ghost use Rattle.vt_value.specs.Sizes.{sizes_of};
@@ -17,19 +17,19 @@ fn are_few(count: u64, size: u64) -> bool
 }
 
 /// Whether a ring of the items of both is within the limits.
-pub(crate) fn is_within(front: &[Value], back: &[Value]) -> bool
-    ensures { result ≡ are_within (front.now ++ back.now) }
+pub(crate) fn is_within(prefix: &[Value], rest: &[Value]) -> bool
+    ensures { result ≡ are_within (prefix.now ++ rest.now) }
 {
-    let count = (front.len() as u64).saturating_add(back.len() as u64);
-    let size = sizes(front).saturating_add(sizes(back));
+    let count = (prefix.len() as u64).saturating_add(rest.len() as u64);
+    let size = sizes(prefix).saturating_add(sizes(rest));
     are_few(count, size)
 }
 
-/// Whether a ring of the items of the front, and then those of the back from its last to its first, is within the limits.
-pub(crate) fn is_within_backwards(front: &[Value], back: &[Value]) -> bool
-    ensures { result ≡ are_within (front.now ++ reverse back.now) }
+/// Whether a ring of the items of the prefix, and then the others from the last to the first, is within the limits.
+pub(crate) fn is_within_backwards(prefix: &[Value], rest: &[Value]) -> bool
+    ensures { result ≡ are_within (prefix.now ++ reverse rest.now) }
 {
-    is_within(front, back)
+    is_within(prefix, rest)
 }
 
 /// Whether a ring of each item so many times is within the limits. Nothing is built for it.

@@ -23,7 +23,7 @@ use Rattle.vt_run.specs.declared.role.Role.TheVariants.{Plain, Named, Looped}
 use Rattle.vt_run.specs.declared.state.State.{State}
 use Rattle.vt_run.specs.Costs.{emit_cost}
 use Rattle.vt_run.specs.Environment.{Env}
-use Rattle.vt_run.specs.Steps.{Ran, Spot, gives, halts, does}
+use Rattle.vt_run.specs.Evaluation.{Ran, Spot, gives, halts, does}
 
 -- the place of the next action
 abbrev pub place_of : Env → State → Place

@@ -3,12 +3,12 @@ use Rattle.std.specs.Prelude.{ℕ, List, Option}
 use Rattle.vt_event.specs.declared.references.BlockRef.{BlockRef}
 use Rattle.vt_run.specs.declared.action.Answer.{Answer}
 use Rattle.vt_run.specs.declared.start.Start.{Start}
-use Rattle.vt_run.specs.Steps.{Form}
+use Rattle.vt_run.specs.Evaluation.{Evaluation}
 
 -- a block that a call runs: its parameters, and what its statements do
 pub record Body : Type 0 where
   pub params : List (List ℕ)
-  pub run : Form
+  pub run : Evaluation
 
 pub record Env : Type 0 where
   -- how the thread started
@@ -22,6 +22,6 @@ pub record Env : Type 0 where
   -- the blocks of the texts, as calls run them
   pub body : BlockRef → Option Body
 
--- a form, in an environment
+-- the meaning of a part of a text: its evaluation, in an environment
 abbrev pub Meaning : Type 0
-Meaning = Env → Form
+Meaning = Env → Evaluation

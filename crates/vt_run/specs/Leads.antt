@@ -3,9 +3,9 @@ use Rattle.std.specs.Prelude.{◌≡◌, Option, Some, None}
 use Rattle.vt_run.specs.declared.action.Answer.{Answer}
 use Rattle.vt_run.specs.declared.state.State.{State}
 use Rattle.vt_run.specs.Notes.{Notes, noted, seen}
-use Rattle.vt_run.specs.Steps.{Next, Ran, after}
+use Rattle.vt_run.specs.Evaluation.{Next, Ran, after}
 
--- To make all steps of one form and of what follows it, from the old notes, is to make those of the other and of what follows it, from the new notes: the same is noted.
+-- To make all steps of one run and of what follows it, from the old notes, is to make those of the other and of what follows it, from the new notes: the same is noted.
 pub record Leads (from : Ran) (old : Notes) (to : Ran) (new : Notes) : Type 0 where
   pub by : (next : Next) → seen (noted old (after from next).steps) ≡ seen (noted new (after to next).steps)
 

@@ -1,5 +1,5 @@
 -- The limits of the language on what a thread is given, holds and does: own.
-use Rattle.std.specs.Prelude.{◌≡◌, ◌⊎◌, ℕ, ◌<◌, ◌≤◌, ◌^◌, unsigned_abs, List, length, false, Option, Some, None, IsTrue}
+use Rattle.std.specs.Prelude.{◌≡◌, ◌⊎◌, ℕ, ◌<◌, ◌^◌, List, false, Option, Some, None, IsTrue}
 use Rattle.std.specs.List.{AllByRecursion}
 use Rattle.vt_frac.specs.Arithmetic.{sum_of}
 use Rattle.vt_frac.specs.Fraction.{Fraction, IsFraction}
@@ -11,12 +11,9 @@ use Rattle.vt_path.specs.Pattern.{IsPattern}
 use Rattle.vt_ring.specs.Exact.{is_negative}
 use Rattle.vt_check.specs.Checked.{IsChecked}
 use Rattle.vt_tree.specs.declared.statement.Block.{Block}
-use Rattle.vt_tree.specs.Forms.{is_label_name}
 use Rattle.vt_value.specs.declared.value.Value.{Value}
-use Rattle.vt_value.specs.declared.value.Value.TheFolds.{every-Value}
-use Rattle.vt_value.specs.declared.value.Value.TheOpen.{Value-F}
-use Rattle.vt_value.specs.Arithmetic.{are_within}
-use Rattle.vt_value.specs.SymbolName.{is_symbol_name}
+use Rattle.vt_frac.specs.Names.{is_label_name, is_symbol_name}
+use Rattle.vt_value.specs.Limits.{IsWithin}
 use Rattle.vt_event.specs.declared.references.BlockRef.{BlockRef}
 use Rattle.vt_event.specs.Event.{EventView}
 use Rattle.vt_event.specs.Kinds.{has_name}
@@ -30,28 +27,8 @@ use Rattle.vt_run.specs.declared.role.Role.TheVariants.{Plain, Named, Looped}
 use Rattle.vt_run.specs.declared.settings.Settings.{Settings}
 use Rattle.vt_run.specs.declared.start.Start.{Start}
 use Rattle.vt_run.specs.declared.texts.Texts.{Texts}
-use Rattle.vt_run.specs.declared.texts.Verdict.{Verdict}
-use Rattle.vt_run.specs.declared.texts.Verdict.TheVariants.{Good, Bad}
 use Rattle.vt_run.specs.Tempo.{is_tempo}
 use Rattle.vt_run.specs.Threads.{text_at, tree_in}
-
--- one value, apart from its items: a whole number below 2^63 in size, a fraction in lowest terms whose parts fit, the name of a symbol, a text of at most 4,096 bytes, a ring of at most 4,096 items and a size of at most 65,536
-abbrev pub WithinLayer : Value-F Value → Type 0
-WithinLayer Value-F.Nil = Unit {0}
-WithinLayer (Value-F.Bool b) = Unit {0}
-WithinLayer (Value-F.Whole n) = unsigned_abs n < 2 ^ 63
-WithinLayer (Value-F.Part f) = IsFraction f
-WithinLayer (Value-F.Sym name) = IsTrue (is_symbol_name name)
-WithinLayer (Value-F.Text bytes) = length bytes ≤ 4096
-WithinLayer (Value-F.Ring items) = IsTrue (are_within items)
-
--- a value, with all its items
-unfoldable pub IsWithin : Value → Type 0
-IsWithin = every-Value WithinLayer
-
--- values in order
-abbrev pub AreWithin : List Value → Type 0
-AreWithin values = AllByRecursion IsWithin values
 
 -- a local or an option: its name is one of a label
 pub record IsPairWithin (pair : List ℕ × Value) : Type 0 where
@@ -133,11 +110,6 @@ IsActionWithin (Read place pattern) = IsFraction place.time × IsPatternWithin p
 IsActionWithin (Wait place pattern) = IsFraction place.time × IsPattern pattern
 IsActionWithin (Spawn place start) = IsFraction place.time × IsStartWithin start
 IsActionWithin (End place reason) = IsFraction place.time
-
--- a tree that the checks allow, if the text is not refused
-abbrev pub IsVerdictChecked : Verdict → Type 0
-IsVerdictChecked (Good tree) = IsChecked tree
-IsVerdictChecked (Bad kind line) = Unit {0}
 
 -- each text that is not refused is a tree that the checks allow
 abbrev pub AreChecked : Texts → Type 0

@@ -10,7 +10,7 @@ use Rattle.vt_run.specs.declared.action.Action.TheVariants.{Rest}
 use Rattle.vt_run.specs.declared.piece.Piece.{Piece}
 use Rattle.vt_run.specs.declared.piece.Stop.{Stop}
 use Rattle.vt_run.specs.Pieces.{listed, or_more, stop_of}
-use Rattle.vt_run.specs.Steps.{Step}
+use Rattle.vt_run.specs.Evaluation.{Step}
 
 pub record Notes : Type 0 where
   -- how many of the next steps are passed over: those of the pieces before

@@ -24,7 +24,7 @@ use Rattle.vt_value.specs.Kinds.{is_truthy}
 use Rattle.vt_value.specs.Same.{same_as}
 use Rattle.vt_run.specs.Actions.{or_fails}
 use Rattle.vt_run.specs.Environment.{Meaning}
-use Rattle.vt_run.specs.Steps.{gives, after}
+use Rattle.vt_run.specs.Evaluation.{gives, after}
 
 -- a literal's value: a decimal number is an exact fraction
 abbrev pub literal_value : Literal → Value

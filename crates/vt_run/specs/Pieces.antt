@@ -2,8 +2,6 @@
 use Rattle.std.specs.Prelude.{◌≡◌, ℕ, ◌+◌, ◌-◌, ◌^◌, ◌<◌, min, List, [], ◌∷◌, ◌++◌, length, Bool, cond, nat_le, Option, Some, None, IsSome}
 use Rattle.vt_frac.specs.Arithmetic.{sum_of}
 use Rattle.vt_frac.specs.Fraction.{Fraction}
-use Rattle.vt_ring.specs.Exact.{is_positive}
-use Rattle.vt_event.specs.declared.place.Place.{Place}
 use Rattle.vt_run.specs.declared.action.Action.{Action}
 use Rattle.vt_run.specs.declared.action.Action.TheVariants.{Emit, Rest, Read, Wait, Spawn, End}
 use Rattle.vt_run.specs.declared.action.Answer.{Answer}
@@ -14,7 +12,7 @@ use Rattle.vt_run.specs.declared.piece.Stop.TheVariants.{Asks, More, Past, Ended
 use Rattle.vt_run.specs.declared.start.Start.{Start}
 use Rattle.vt_run.specs.declared.texts.Texts.{Texts}
 use Rattle.vt_run.specs.Actions.{is_past}
-use Rattle.vt_run.specs.Steps.{Step}
+use Rattle.vt_run.specs.Evaluation.{Step}
 use Rattle.vt_run.specs.Threads.{acts}
 
 -- the stop that an action makes: a read or a wait asks, a rest may reach the horizon, an end is one
@@ -104,39 +102,3 @@ AnswersLast _ answer = Unit {0}
 -- the answer is one that the last of these steps may have
 abbrev pub MayBeAnswer : List Step → Option Answer → Type 0
 MayBeAnswer steps answer = AnswersLast (last_of None (actions_of steps)) answer
-
--- how many answers a thread has left, and the place of its next action
-pub record Stand : Type 0 where
-  pub place : Place
-  pub answers : List Answer
-
-abbrev pub next_step : Place → Place
-next_step place = record place { step = place.step + 1 }
-
--- a rest of a positive amount moves the place on in time
-abbrev pub place_rested : Fraction → Place → Place
-place_rested seconds place = cond (is_positive seconds) (record place { time = sum_of place.time seconds; micro = 0 }) place
-
-abbrev pub left_of : List Answer → List Answer
-left_of [] = []
-left_of (answer ∷ answers) = answers
-
--- a wait moves the place to that of the event that answered it, one micro step later
-abbrev pub place_woken : List Answer → Place → Place
-place_woken (Found event ∷ answers) place = record place { time = event.place.time; micro = event.place.micro + 1 }
-place_woken _ place = place
-
--- where a thread stands after an action
-abbrev pub stand_after : Action → Stand → Stand
-stand_after (Rest place seconds) stand = record { place = next_step (place_rested seconds stand.place); answers = stand.answers }
-stand_after (Read place pattern) stand = record { place = next_step stand.place; answers = left_of stand.answers }
-stand_after (Wait place pattern) stand = record { place = next_step (place_woken stand.answers stand.place); answers = left_of stand.answers }
-stand_after _ stand = record { place = next_step stand.place; answers = stand.answers }
-
-abbrev pub stand_after_all : List Action → Stand → Stand
-stand_after_all [] stand = stand
-stand_after_all (action ∷ actions) stand = stand_after_all actions (stand_after action stand)
-
--- the place of the next action of a thread after these steps, also where it may never act again
-abbrev pub next_place : Start → List Answer → List Step → Place
-next_place start answers steps = (stand_after_all (actions_of steps) (record { place = start.place; answers = answers })).place

@@ -1,4 +1,4 @@
--- Locals, and how deep a form stands. That an assignment in a block changes the local outside it is after Ruby; the rest is own.
+-- Locals, and how deep a part of a text stands. That an assignment in a block changes the local outside it is after Ruby; the rest is own.
 use Rattle.std.specs.Prelude.{ℕ, zero, suc, ◌+◌, List, [], ◌∷◌, ◌++◌, Bool, true, false, cond, nat_lt, length, take, bytes_eq, Option, Some, None, unwrap_or}
 use Rattle.vt_value.specs.declared.fault.FaultKind.TheVariants.{TooDeep}
 use Rattle.vt_value.specs.declared.value.Value.{Value}
@@ -7,7 +7,7 @@ use Rattle.vt_event.specs.Pairs.{Pairs}
 use Rattle.vt_run.specs.declared.state.State.{State}
 use Rattle.vt_run.specs.Actions.{fails}
 use Rattle.vt_run.specs.Environment.{Env, Meaning}
-use Rattle.vt_run.specs.Steps.{Ran, Spot, gives, after}
+use Rattle.vt_run.specs.Evaluation.{Ran, Spot, gives, after}
 
 abbrev pub or_else : Option Value → Option Value → Option Value
 or_else None other = other
@@ -45,20 +45,20 @@ with_locals locals st = record st { locals = locals }
 abbrev pub enters : Env → Spot → State → (Spot → Ran) → Ran
 enters env at st go = cond (nat_lt at.depth 256) (go (record at { depth = at.depth + 1 })) (fails TooDeep env at st)
 
--- so many pairs of parentheses round a form, each one deeper
+-- so many pairs of parentheses round a part, each one deeper
 abbrev pub inside_pairs : ℕ → Meaning → Meaning
-inside_pairs zero form env at st = form env at st
-inside_pairs (suc n) form env at st = enters env at st (λ deep. inside_pairs n form env deep st)
+inside_pairs zero part env at st = part env at st
+inside_pairs (suc n) part env at st = enters env at st (λ deep. inside_pairs n part env deep st)
 
 -- where parentheses stand, one deeper
 abbrev pub pair_if : Bool → Env → Spot → State → (Spot → Ran) → Ran
 pair_if true env at st go = enters env at st go
 pair_if false env at st go = go at
 
--- forms one after another: the value is that of the last, or else the value before them
+-- parts one after another: the value is that of the last, or else the value before them
 abbrev pub row : List Meaning → Value → Meaning
 row [] value env at st = gives value st
-row (form ∷ forms) value env at st = after (form env at st) (λ value st. row forms value env at st)
+row (part ∷ parts) value env at st = after (part env at st) (λ value st. row parts value env at st)
 
 -- the statements of a branch are one deeper, with the same locals
 abbrev pub branch : List Meaning → Meaning

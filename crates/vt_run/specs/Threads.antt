@@ -18,9 +18,9 @@ use Rattle.vt_run.specs.declared.texts.Verdict.{Verdict}
 use Rattle.vt_run.specs.declared.texts.Verdict.TheVariants.{Good, Bad}
 use Rattle.vt_run.specs.Actions.{ends}
 use Rattle.vt_run.specs.Environment.{Body, Env}
-use Rattle.vt_run.specs.LiveLoops.{live_turns, waits_first}
+use Rattle.vt_run.specs.calls.LiveLoops.{live_turns, waits_first}
 use Rattle.vt_run.specs.Scopes.{BlockMeaning, params_with, with_locals}
-use Rattle.vt_run.specs.Steps.{Ran, Spot, Step, halts, after}
+use Rattle.vt_run.specs.Evaluation.{Ran, Spot, Step, halts, after}
 use Rattle.vt_run.specs.TreeMeaning.{block_meaning}
 
 -- the text with this number, from 1

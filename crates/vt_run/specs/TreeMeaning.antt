@@ -15,13 +15,13 @@ use Rattle.vt_value.specs.Kinds.{is_truthy}
 use Rattle.vt_event.specs.Pairs.{Pairs}
 use Rattle.vt_run.specs.declared.state.State.{State}
 use Rattle.vt_run.specs.Actions.{or_fails}
-use Rattle.vt_run.specs.Arguments.{no_arguments}
+use Rattle.vt_run.specs.calls.Arguments.{no_arguments}
 use Rattle.vt_run.specs.Costs.{node_size}
-use Rattle.vt_run.specs.EffectTable.{calls_name, if_built}
+use Rattle.vt_run.specs.calls.EffectTable.{calls_name, if_built}
 use Rattle.vt_run.specs.Environment.{Env, Meaning}
 use Rattle.vt_run.specs.Operators.{index_of, linked, links, literal_value, unary_of}
 use Rattle.vt_run.specs.Scopes.{BlockMeaning, assigned, branch, enters, inside_pairs, lookup, pair_if, row, with_locals}
-use Rattle.vt_run.specs.Steps.{Ran, Next, Spot, gives, after, charges, tick}
+use Rattle.vt_run.specs.Evaluation.{Ran, Next, Spot, gives, after, charges, tick}
 
 -- what a call does, with the value before its dot, if there is one
 abbrev pub CallMeaning : Type 0
@@ -35,20 +35,28 @@ LinkMeaning = Value → Meaning
 abbrev pub ArmMeaning : Type 0
 ArmMeaning = Meaning → Meaning
 
+-- a layer of the tree, with the meaning of each child in its place
+abbrev pub OfMeanings : (Type 0 → Type 0 → Type 0 → Type 0 → Type 0 → Type 0 → Type 0 → Type 0 → Type 0 → Type 0) → Type 0
+OfMeanings Layer = Layer Meaning Meaning Meaning CallMeaning Meaning LinkMeaning ArmMeaning BlockMeaning Meaning
+
+-- what is said of all types of meanings, of these
+abbrev pub at_meanings : {P : Type 0 → Type 0 → Type 0 → Type 0 → Type 0 → Type 0 → Type 0 → Type 0 → Type 0 → Type 0} → ((A B C D E F G H I : Type 0) → P A B C D E F G H I) → P Meaning Meaning Meaning CallMeaning Meaning LinkMeaning ArmMeaning BlockMeaning Meaning
+at_meanings f = f Meaning Meaning Meaning CallMeaning Meaning LinkMeaning ArmMeaning BlockMeaning Meaning
+
 -- the size of a node's value, as the value is known
 abbrev pub sized : Next
 sized value st = charges (node_size value) (gives value st)
 
 -- a node: its step, what it does, and the size of its value
 abbrev pub noded : Meaning → Meaning
-noded form env at st = tick (after (form env at st) sized)
+noded part env at st = tick (after (part env at st) sized)
 
--- forms from left to right, and then what comes next of their values
+-- parts from left to right, and then what comes next of their values
 abbrev pub values_of : List Meaning → Env → Spot → State → (List Value → State → Ran) → Ran
 values_of [] env at st go = go [] st
-values_of (form ∷ forms) env at st go = after (form env at st) (λ value st. values_of forms env at st (λ values st. go (value ∷ values) st))
+values_of (part ∷ parts) env at st go = after (part env at st) (λ value st. values_of parts env at st (λ values st. go (value ∷ values) st))
 
--- labelled forms from left to right
+-- labelled parts from left to right
 abbrev pub options_of : List (List ℕ × Meaning) → Env → Spot → State → (Pairs → State → Ran) → Ran
 options_of [] env at st go = go [] st
 options_of (labelled ∷ rest) env at st go =
@@ -67,7 +75,7 @@ abbrev pub chained : Meaning → List LinkMeaning → Meaning
 chained first rest env at st = after (first env at st) (λ value st. links rest value env at st)
 
 -- what a node does after its step; the brackets of an index and of a list are one deeper
-abbrev pub node_body : Node-F Meaning Meaning Meaning CallMeaning Meaning LinkMeaning ArmMeaning BlockMeaning Meaning → Meaning
+abbrev pub node_body : OfMeanings Node-F → Meaning
 node_body (Node-F.Literal literal) env at st = gives (literal_value literal) st
 node_body (Node-F.Name name) env at st = bare_name name env at st
 node_body (Node-F.Call call) env at st = call None env at st
@@ -82,18 +90,18 @@ node_body (Node-F.Dot of call) env at st = after (of env at st) (λ value st. ca
 node_body (Node-F.Unary op of) env at st = after (of env at st) (λ value st. or_fails (unary_of op value) env at st (λ result. gives result st))
 node_body (Node-F.Chain kind first rest) env at st = chained first rest env at st
 
-abbrev pub node_layer : Node-F Meaning Meaning Meaning CallMeaning Meaning LinkMeaning ArmMeaning BlockMeaning Meaning → Meaning
+abbrev pub node_layer : OfMeanings Node-F → Meaning
 node_layer node env at st = noded (node_body node) env at st
 
 -- each pair of parentheses round a node is one deeper, and no node
-abbrev pub expr_layer : Expr-F Meaning Meaning Meaning CallMeaning Meaning LinkMeaning ArmMeaning BlockMeaning Meaning → Meaning
+abbrev pub expr_layer : OfMeanings Expr-F → Meaning
 expr_layer expr env at st = inside_pairs expr.wraps expr.node env at st
 
-abbrev pub link_layer : Link-F Meaning Meaning Meaning CallMeaning Meaning LinkMeaning ArmMeaning BlockMeaning Meaning → LinkMeaning
+abbrev pub link_layer : OfMeanings Link-F → LinkMeaning
 link_layer link value env at st = linked link.op value link.part env at st
 
 -- a call: its arguments and then its options, one deeper where they stand in parentheses; the parentheses are left before the call is done
-abbrev pub call_layer : Call-F Meaning Meaning Meaning CallMeaning Meaning LinkMeaning ArmMeaning BlockMeaning Meaning → CallMeaning
+abbrev pub call_layer : OfMeanings Call-F → CallMeaning
 call_layer call receiver env at st =
     if_built call.name (λ env at st.
     pair_if call.wrapped env at st (λ inner.
@@ -107,7 +115,7 @@ is_met true value = not (is_truthy value)
 is_met false value = is_truthy value
 
 -- a branch is done where its condition holds, and else what stands behind it
-abbrev pub arm_layer : Arm-F Meaning Meaning Meaning CallMeaning Meaning LinkMeaning ArmMeaning BlockMeaning Meaning → ArmMeaning
+abbrev pub arm_layer : OfMeanings Arm-F → ArmMeaning
 arm_layer arm other env at st = after (arm.cond env at st) (λ value st. cond (is_met arm.unless value) (branch arm.stmts env at st) (other env at st))
 
 -- the first branch whose condition holds, and else what stands behind them
@@ -128,33 +136,37 @@ assigned_value assign_by.Sub name value = noded (chained (noded (bare_name name)
 assigned_value assign_by.Mul name value = noded (chained (noded (bare_name name)) ((λ before. linked Mul before value) ∷ []))
 
 -- a statement without what may follow it; an assignment gives the value assigned
-abbrev pub simple_layer : Simple-F Meaning Meaning Meaning CallMeaning Meaning LinkMeaning ArmMeaning BlockMeaning Meaning → Meaning
+abbrev pub simple_layer : OfMeanings Simple-F → Meaning
 simple_layer (Simple-F.Iff arms other) env at st = branches arms (otherwise other) env at st
 simple_layer (Simple-F.Assign name op value) env at st =
     after (assigned_value op name value env at st) (λ value st. gives value (with_locals (assigned name value st.locals) st))
 simple_layer (Simple-F.Value value) env at st = value env at st
 
 -- a statement with a condition after it is done where that holds, and else gives nil
-abbrev pub form_layer : StmtForm-F Meaning Meaning Meaning CallMeaning Meaning LinkMeaning ArmMeaning BlockMeaning Meaning → Meaning
+abbrev pub form_layer : OfMeanings StmtForm-F → Meaning
 form_layer (StmtForm-F.Plain simple) env at st = simple env at st
 form_layer (StmtForm-F.Guarded simple unless condition) env at st =
     after (condition env at st) (λ value st. cond (is_met unless value) (simple env at st) (gives Nil st))
 
 -- a statement: its step, and what it does on its line
-abbrev pub stmt_layer : Stmt-F Meaning Meaning Meaning CallMeaning Meaning LinkMeaning ArmMeaning BlockMeaning Meaning → Meaning
+abbrev pub stmt_layer : OfMeanings Stmt-F → Meaning
 stmt_layer stmt env at st = tick (stmt.form env (record at { line = stmt.line }) st)
 
 -- a block: what its statements do one after another; nil where there is none
-abbrev pub block_layer : Block-F Meaning Meaning Meaning CallMeaning Meaning LinkMeaning ArmMeaning BlockMeaning Meaning → BlockMeaning
+abbrev pub block_layer : OfMeanings Block-F → BlockMeaning
 block_layer block = record { number = block.number; params = block.params; run = row block.stmts Nil }
+
+-- what is said of all layers, of these
+abbrev pub by_layers : {P : (OfMeanings Node-F → Meaning) → (OfMeanings Simple-F → Meaning) → (OfMeanings StmtForm-F → Meaning) → (OfMeanings Call-F → CallMeaning) → (OfMeanings Expr-F → Meaning) → (OfMeanings Link-F → LinkMeaning) → (OfMeanings Arm-F → ArmMeaning) → (OfMeanings Block-F → BlockMeaning) → (OfMeanings Stmt-F → Meaning) → Type 0} → ((node : OfMeanings Node-F → Meaning) (simple : OfMeanings Simple-F → Meaning) (form : OfMeanings StmtForm-F → Meaning) (call : OfMeanings Call-F → CallMeaning) (expr : OfMeanings Expr-F → Meaning) (link : OfMeanings Link-F → LinkMeaning) (arm : OfMeanings Arm-F → ArmMeaning) (block : OfMeanings Block-F → BlockMeaning) (stmt : OfMeanings Stmt-F → Meaning) → P node simple form call expr link arm block stmt) → P node_layer simple_layer form_layer call_layer expr_layer link_layer arm_layer block_layer stmt_layer
+by_layers f = f node_layer simple_layer form_layer call_layer expr_layer link_layer arm_layer block_layer stmt_layer
 
 -- what a statement does
 unfoldable pub stmt_meaning : Stmt → Meaning
-stmt_meaning = fold-Stmt Meaning Meaning Meaning CallMeaning Meaning LinkMeaning ArmMeaning BlockMeaning Meaning node_layer simple_layer form_layer call_layer expr_layer link_layer arm_layer block_layer stmt_layer
+stmt_meaning = by_layers (at_meanings fold-Stmt)
 
 -- what a block does
 unfoldable pub block_meaning : Block → BlockMeaning
-block_meaning = fold-Block Meaning Meaning Meaning CallMeaning Meaning LinkMeaning ArmMeaning BlockMeaning Meaning node_layer simple_layer form_layer call_layer expr_layer link_layer arm_layer block_layer stmt_layer
+block_meaning = by_layers (at_meanings fold-Block)
 
 -- what statements do one after another, after this value
 abbrev pub stmts_meaning : List Stmt → Value → Meaning

@@ -1,3 +1,5 @@
+//! What a thread does and what it is answered: actions, each at its place, and answers.
+
 ghost use Rattle.std.specs.Prelude.{◌≡◌, [], ◌∷◌, ◌++◌, OnErr, OnOk};
 
 use crate::Start;
@@ -19,7 +21,7 @@ pub enum EndReason {
 }
 
 /// What a thread does, each action at its place.
-#[derive(Debug, Drop)]
+#[derive(Drop)]
 pub enum Action {
     /// It publishes an event.
     Emit(Event),
@@ -36,7 +38,7 @@ pub enum Action {
 }
 
 /// What a read or a wait is answered by. A wait is answered by `Found`.
-#[derive(Debug, Drop)]
+#[derive(Drop)]
 pub enum Answer {
     /// There is no such event.
     Nothing,
@@ -45,7 +47,7 @@ pub enum Answer {
 }
 
 /// A list of actions.
-#[derive(Debug, Drop)]
+#[derive(Drop)]
 pub struct Actions {
     items: Vec<Action>,
 }

@@ -1,8 +1,11 @@
 //! The laws of the meaning of a thread, and of what is noted of it. Each function does nothing; its contract is the law.
 
-ghost use Rattle.vt_run.specs.NoteLaws.{PieceLaw};
-ghost use Rattle.vt_run.specs.StepLaws.{AnswersLaw, BlocksLaw, ChildrenLaw, ClosingLaw, CostsLaw, EventsLaw, HorizonLaw, LastLaw, LimitsLaw, NextLaw, NumbersLaw, PiecesAreOne, PlacesLaw, RisingLaw};
-ghost use Rattle.vt_run.specs.ThreadLaws.{PrefixLaw, SequenceLaw};
+ghost use Rattle.vt_path.proofs.PathDecided.{IsNoneWhereNoPath, IsPathWhereWritten};
+ghost use Rattle.vt_path.proofs.PatternDecided.{IsNoneWhereNoPattern, IsPatternWhereWritten};
+ghost use Rattle.vt_run.specs.laws.NoteLaws.{PieceLaw};
+ghost use Rattle.vt_run.specs.laws.StartLaws.{RefusalLaw, TextStartLaw};
+ghost use Rattle.vt_run.specs.laws.StepLaws.{AnswersLaw, BlocksLaw, ChildrenLaw, ClosingLaw, CostsLaw, EventsLaw, HorizonLaw, LastLaw, LimitsLaw, NextLaw, NumbersLaw, PiecesAreOne, PlacesLaw, PrefixLaw, RisingLaw};
+ghost use Rattle.vt_run.specs.laws.SequenceLaws.{AfterOptionsLaw, AfterValuesLaw, LinksLaw, OptionsLaw, SequenceLaw, ValuesLaw};
 
 /// The steps of statements one after another are those of the first ones, followed, where these leave something, by those
 /// of the rest from what they leave.
@@ -10,8 +13,33 @@ pub fn steps_of_a_sequence()
     ensures { SequenceLaw }
 {}
 
-/// The list for n steps is a front of the list for more.
-pub fn fewer_steps_are_a_front()
+/// So are the links of a chain.
+pub fn links_of_a_sequence()
+    ensures { LinksLaw }
+{}
+
+/// So are the arguments of a call and the items of a list: their values stand in order.
+pub fn values_of_a_sequence()
+    ensures { ValuesLaw }
+{}
+
+/// What comes next of these values is what comes after them.
+pub fn values_and_then()
+    ensures { AfterValuesLaw }
+{}
+
+/// So are the options of a call: their labels and values stand in order.
+pub fn options_of_a_sequence()
+    ensures { OptionsLaw }
+{}
+
+/// What comes next of these options is what comes after them.
+pub fn options_and_then()
+    ensures { AfterOptionsLaw }
+{}
+
+/// The list for n steps is a prefix of the list for more.
+pub fn fewer_steps_are_a_prefix()
     ensures { PrefixLaw }
 {}
 
@@ -86,7 +114,30 @@ pub fn pieces_are_one()
     ensures { PiecesAreOne }
 {}
 
+/// The thread of a text starts within the limits of the language.
+pub fn texts_start_within_limits()
+    ensures { TextStartLaw }
+{}
+
+/// The event of a refused text is well made, within the limits, and stands before all that such a text would do.
+pub fn refusals_stand_first()
+    ensures { RefusalLaw }
+{}
+
 /// Where the new answers change none of the steps that are done, what is noted of a thread is its next piece.
 pub fn noted_steps_are_a_piece()
     ensures { PieceLaw }
+{}
+
+/// `path_of` of bytes is a path exactly where they are that path as it is written, and none exactly where they are no path.
+pub fn paths_are_as_written()
+    ensures written { IsPathWhereWritten }
+    ensures none { IsNoneWhereNoPath }
+{}
+
+/// `pattern_of` of bytes is a pattern exactly where they are that pattern as it is written, and none exactly where they are
+/// no pattern.
+pub fn patterns_are_as_written()
+    ensures written { IsPatternWhereWritten }
+    ensures none { IsNoneWhereNoPattern }
 {}

@@ -12,8 +12,6 @@ mod settings;
 mod start;
 mod state;
 mod tempo;
-#[cfg(test)]
-mod tests;
 mod texts;
 
 pub use action::{Action, Actions, Answer, EndReason};
@@ -21,8 +19,10 @@ pub use laws::{
     actions_are_numbered, actions_are_within_limits, actions_stand_below_the_horizon,
     actions_stand_in_place, answers_only_extend, children_are_numbered, children_run_blocks,
     each_step_costs, early_lists_end_with_the_last_step, events_are_well_made,
-    fewer_steps_are_a_front, last_steps_are_last, noted_steps_are_a_piece, pieces_are_one,
-    places_rise, steps_of_a_sequence, threads_have_next_pieces,
+    fewer_steps_are_a_prefix, last_steps_are_last, links_of_a_sequence, noted_steps_are_a_piece,
+    options_and_then, options_of_a_sequence, paths_are_as_written, patterns_are_as_written,
+    pieces_are_one, places_rise, refusals_stand_first, steps_of_a_sequence,
+    texts_start_within_limits, threads_have_next_pieces, values_and_then, values_of_a_sequence,
 };
 pub use options::RenderOptions;
 pub use piece::{Piece, Stop};

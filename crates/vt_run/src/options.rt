@@ -1,3 +1,5 @@
+//! The options of a rendering, within their limits.
+
 ghost use Rattle.std.specs.Prelude.{◌≡◌, ◌↔◌, IfSome, IsSome, IsTrue};
 ghost use Rattle.vt_run.specs.RenderLimits.{are_within, is_horizon};
 
@@ -6,7 +8,7 @@ use vt_frac::Frac;
 
 /// The options of a rendering, each within its limits: 1 to 64 workers, a horizon from 0 to 3600 seconds, a budget from
 /// 1 to 2^24. Contracts see them as the record of their fields.
-#[derive(Clone, Copy, Debug)]
+#[derive(Clone, Copy)]
 pub struct RenderOptions {
     workers: u32,
     until: Frac,

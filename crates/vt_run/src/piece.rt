@@ -1,3 +1,5 @@
+//! Pieces of a thread: some actions, up to a stop.
+
 use crate::Actions;
 
 /// Why a piece ends.
@@ -14,7 +16,7 @@ pub enum Stop {
 }
 
 /// Some actions of a thread, one after another, up to a stop.
-#[derive(Debug, Drop)]
+#[derive(Drop)]
 pub struct Piece {
     /// The actions in order.
     pub actions: Actions,

@@ -7,7 +7,8 @@ ghost use Rattle.vt_run.specs.Actions.{is_past};
 ghost use Rattle.vt_run.specs.Leads.{Leads};
 ghost use Rattle.vt_run.specs.Notes.{IsOver, RestFits, capped, finished, fresh, note, piece_of};
 ghost use Rattle.vt_run.specs.Pieces.{listed, or_more, stop_of};
-ghost use Rattle.vt_run.specs.Steps.{Ran, halts, step};
+ghost use Rattle.vt_run.specs.private.Passing.{IsNextKept, Passed};
+ghost use Rattle.vt_run.specs.Evaluation.{Ran, halts, step};
 
 use crate::{Action, Actions, Piece, Stop};
 use std::alloc::Global;
@@ -17,7 +18,7 @@ use vt_frac::{Frac, NoMemory};
 
 /// The notes of a runner: the steps that are done are passed over, the next ones are kept up to a stop. Contracts see them
 /// as the record `Notes`.
-#[derive(Debug, Drop)]
+#[derive(Drop)]
 pub struct Recorder {
     skip: u64,
     actions: Actions,
@@ -118,13 +119,36 @@ impl Recorder {
         ensures leads { OnOk result ((exact : ℕ) → capped exact ≡ cost → (ran : Ran) → Leads (step (record { cost = exact; action = action }) ran) self.old ran self.new) }
         ensures err { OnErr result (self.new ≡ self.old) }
     {
+        if self.passes() {
+            let_go(action);
+            Ok(())
+        } else {
+            self.keep_next(cost, action)
+        }
+    }
+
+    /// Passes over the next step where it is done already or nothing more is noted, and says whether it did.
+    fn passes(&mut self) -> bool
+        ensures { Passed result self.old self.new }
+    {
         if self.over || self.stop.is_some() {
-            return Ok(());
+            return true;
         }
         if self.skip > 0 {
             self.skip -= 1;
-            return Ok(());
+            return true;
         }
+        false
+    }
+
+    /// Keeps the next step. It fails only for want of memory.
+    fn keep_next(&mut self, cost: u64, action: Option<Action>) -> Result<(), NoMemory>
+        requires next { IsNextKept self.old }
+        requires costs { 1 ≤ cost }
+        requires fits { RestFits action }
+        ensures value { OnOk result (self.new ≡ note self.old (record { cost = cost; action = action })) }
+        ensures err { OnErr result (self.new ≡ self.old) }
+    {
         let cost = self.cost.saturating_add(cost);
         let stop = stop_after(self.until, &action, self.limit <= cost);
         keep(&mut self.actions, action)?;
@@ -134,6 +158,9 @@ impl Recorder {
         Ok(())
     }
 }
+
+/// Drops an action.
+fn let_go(_action: Option<Action>) {}
 
 /// Adds the action of a step, if it has one. It fails only for want of memory.
 fn keep(actions: &mut Actions, action: Option<Action>) -> Result<(), NoMemory>

@@ -1,3 +1,5 @@
+//! Which part a thread has in its session.
+
 ghost use Rattle.std.specs.Prelude.{◌≡◌, IfOk};
 
 use std::alloc::Global;
@@ -6,7 +8,7 @@ use vt_path::Pattern;
 use vt_value::Symbol;
 
 /// Which part a thread has in its session.
-#[derive(Debug, Drop)]
+#[derive(Drop)]
 pub enum Role {
     /// A text, or a thread without a name.
     Plain,

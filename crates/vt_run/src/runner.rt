@@ -1,13 +1,11 @@
 //! A runner: it gives the actions of one thread, a piece at a time.
 
-ghost use Rattle.std.specs.Prelude.{◌≡◌, ◌≤◌, ◌<◌, ◌+◌, ◌^◌, ℕ, List, [], ◌++◌, Option, None, Some, Bool, true, false, IfOk, IsSome, OnErr};
+ghost use Rattle.std.specs.Prelude.{◌≡◌, ◌≤◌, ◌<◌, ◌+◌, ◌^◌, [], ◌++◌, None, Some, false, true, IfOk, IsSome, OnErr};
 ghost use Rattle.vt_event.specs.Order.{place_of};
-ghost use Rattle.vt_run.specs.declared.action.Answer.{Answer};
-ghost use Rattle.vt_run.specs.declared.piece.Stop.{Stop};
-ghost use Rattle.vt_run.specs.declared.start.Start.{Start};
 ghost use Rattle.vt_run.specs.declared.texts.Texts.{Texts};
-ghost use Rattle.vt_run.specs.Pieces.{GoesOn, HasNextPlace, IsPiece, MayBeAnswer, given, next_place};
-ghost use Rattle.vt_run.specs.Threads.{acts, block_of};
+ghost use Rattle.vt_run.specs.Pieces.{GoesOn, HasNextPlace, MayBeAnswer, given};
+ghost use Rattle.vt_run.specs.Progress.{IsPieceBetween, Progress, done_steps, next_place_of, place_with};
+ghost use Rattle.vt_run.specs.Threads.{block_of};
 
 use crate::{Answer, Piece, Start, Texts};
 use std::alloc::Global;
@@ -16,20 +14,9 @@ use vt_frac::NoMemory;
 
 /// Gives the actions of one thread, a piece at a time: its meaning by the definitions, cut at each stop.
 pub trait Runner: Sized + Drop + Send {
-    /// How the thread started.
-    ghost start_of: { Self → Start };
-
-    /// The answers given so far.
-    ghost answers_of: { Self → List Answer };
-
-    /// How many evaluation steps are done.
-    ghost done_of: { Self → ℕ };
-
-    /// The stop of the last piece, if there was one.
-    ghost last_of: { Self → Option Stop };
-
-    /// Whether it has failed for want of memory.
-    ghost has_failed: { Self → Bool };
+    /// How far it has come: how the thread started, the answers given so far, how many evaluation steps are done, the stop of
+    /// the last piece, if there was one, and whether it has failed for want of memory.
+    ghost progress_of: { Self → Progress };
 
     /// Whether it stands for these texts.
     ghost Stands: { Self → Texts → Type 0 };
@@ -38,11 +25,11 @@ pub trait Runner: Sized + Drop + Send {
     fn begin(alloc: Global, start: Start) -> Result<Self, NoMemory>
         requires first { start.place.step ≡ 1 }
         requires micro { start.place.micro < 2 ^ 31 }
-        ensures start { IfOk result (λ runner. start_of runner ≡ start) }
-        ensures answers { IfOk result (λ runner. answers_of runner ≡ []) }
-        ensures done { IfOk result (λ runner. done_of runner ≡ 0) }
-        ensures last { IfOk result (λ runner. last_of runner ≡ None) }
-        ensures fresh { IfOk result (λ runner. has_failed runner ≡ false) }
+        ensures start { IfOk result (λ runner. (progress_of runner).start ≡ start) }
+        ensures answers { IfOk result (λ runner. (progress_of runner).answers ≡ []) }
+        ensures done { IfOk result (λ runner. (progress_of runner).done ≡ 0) }
+        ensures last { IfOk result (λ runner. (progress_of runner).last ≡ None) }
+        ensures fresh { IfOk result (λ runner. (progress_of runner).failed ≡ false) }
         ensures stands { IfOk result (λ runner. (texts : Texts) → Stands runner texts) };
 
     /// The next piece of the thread, with the answer that it asked for: the fewest next steps that reach an ask, the end,
@@ -56,28 +43,28 @@ pub trait Runner: Sized + Drop + Send {
         limit: u64,
     ) -> Result<Piece, NoMemory>
         requires stands { Stands self.old texts.now }
-        requires block { IsSome (block_of texts.now (start_of self.old).block) }
-        requires goes_on { GoesOn (last_of self.old) answer }
-        requires answer { MayBeAnswer (acts texts.now (start_of self.old) (answers_of self.old) (done_of self.old)) answer }
-        requires step { (next_place (start_of self.old) (answers_of self.old ++ given answer) (acts texts.now (start_of self.old) (answers_of self.old) (done_of self.old))).step < 2 ^ 31 }
-        requires few { done_of self.old < 2 ^ 63 }
+        requires block { IsSome (block_of texts.now (progress_of self.old).start.block) }
+        requires goes_on { GoesOn (progress_of self.old).last answer }
+        requires answer { MayBeAnswer (done_steps texts.now (progress_of self.old)) answer }
+        requires step { (place_with answer texts.now (progress_of self.old)).step < 2 ^ 31 }
+        requires few { (progress_of self.old).done < 2 ^ 63 }
         requires least { 1 ≤ limit }
         requires most { limit ≤ 4096 }
-        ensures piece { IfOk result (λ piece. IsPiece texts.now (start_of self.old) (answers_of self.old) (answers_of self.new) (done_of self.old) limit piece (done_of self.new)) }
-        ensures start { start_of self.new ≡ start_of self.old }
-        ensures answers { IfOk result (λ _. answers_of self.new ≡ answers_of self.old ++ given answer) }
-        ensures last { IfOk result (λ piece. last_of self.new ≡ Some piece.stop) }
-        ensures grown { IfOk result (λ _. done_of self.new ≤ done_of self.old + 4096) }
+        ensures piece { IfOk result (λ piece. IsPieceBetween texts.now (progress_of self.old) (progress_of self.new) limit piece) }
+        ensures start { (progress_of self.new).start ≡ (progress_of self.old).start }
+        ensures answers { IfOk result (λ _. (progress_of self.new).answers ≡ (progress_of self.old).answers ++ given answer) }
+        ensures last { IfOk result (λ piece. (progress_of self.new).last ≡ Some piece.stop) }
+        ensures grown { IfOk result (λ _. (progress_of self.new).done ≤ (progress_of self.old).done + 4096) }
         ensures stands { Stands self.new texts.now }
-        ensures good { IfOk result (λ _. (has_failed self.old ≡ false) × (has_failed self.new ≡ false)) }
-        ensures failed { OnErr result (has_failed self.new ≡ true) }
-        ensures same_answers { OnErr result (answers_of self.new ≡ answers_of self.old) }
-        ensures same_steps { OnErr result (done_of self.new ≡ done_of self.old) }
-        ensures same_stop { OnErr result (last_of self.new ≡ last_of self.old) };
+        ensures good { IfOk result (λ _. ((progress_of self.old).failed ≡ false) × ((progress_of self.new).failed ≡ false)) }
+        ensures failed { OnErr result ((progress_of self.new).failed ≡ true) }
+        ensures same_answers { OnErr result ((progress_of self.new).answers ≡ (progress_of self.old).answers) }
+        ensures same_steps { OnErr result ((progress_of self.new).done ≡ (progress_of self.old).done) }
+        ensures same_stop { OnErr result ((progress_of self.new).last ≡ (progress_of self.old).last) };
 
     /// The place of the next action.
     fn place(&self) -> PlaceRef<'_>
-        requires good { has_failed self.now ≡ false }
-        requires there { HasNextPlace (last_of self.now) }
-        ensures { (texts : Texts) → Stands self.now texts → place_of result ≡ next_place (start_of self.now) (answers_of self.now) (acts texts (start_of self.now) (answers_of self.now) (done_of self.now)) };
+        requires good { (progress_of self.now).failed ≡ false }
+        requires there { HasNextPlace ((progress_of self.now).last) }
+        ensures { (texts : Texts) → Stands self.now texts → place_of result ≡ next_place_of texts (progress_of self.now) };
 }

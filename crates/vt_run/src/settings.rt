@@ -1,3 +1,5 @@
+//! What a thread plays with.
+
 ghost use Rattle.std.specs.Prelude.{◌≡◌, IfOk};
 
 use crate::Tempo;
@@ -6,7 +8,7 @@ use vt_event::{FxId, Options};
 use vt_frac::{Name, NoMemory};
 
 /// What a thread plays with.
-#[derive(Debug, Drop)]
+#[derive(Drop)]
 pub struct Settings {
     /// The tempo, in beats per minute.
     pub bpm: Tempo,
@@ -23,11 +25,14 @@ impl Settings {
     pub fn copy(&self, alloc: Global) -> Result<Settings, NoMemory>
         ensures { IfOk result (λ settings. settings ≡ self.now) }
     {
+        let synth = self.synth.copy(alloc)?;
+        let fx = copy_fx(alloc, &self.fx)?;
+        let defaults = self.defaults.copy(alloc)?;
         Ok(Settings {
             bpm: self.bpm,
-            synth: self.synth.copy(alloc)?,
-            defaults: self.defaults.copy(alloc)?,
-            fx: copy_fx(alloc, &self.fx)?,
+            synth,
+            defaults,
+            fx,
         })
     }
 }

@@ -1,3 +1,5 @@
+//! How a thread starts.
+
 ghost use Rattle.std.specs.Prelude.{◌≡◌, IfOk};
 
 use crate::{Role, Settings};
@@ -6,7 +8,7 @@ use vt_event::{BlockRef, Locals, Place};
 use vt_frac::{Frac, NoMemory};
 
 /// How a thread starts. The thread is that of its place.
-#[derive(Debug, Drop)]
+#[derive(Drop)]
 pub struct Start {
     /// The place of its first action.
     pub place: Place,
@@ -29,13 +31,17 @@ impl Start {
     pub fn copy(&self, alloc: Global) -> Result<Start, NoMemory>
         ensures { IfOk result (λ start. start ≡ self.now) }
     {
+        let locals = self.locals.copy(alloc)?;
+        let place = self.place.copy(alloc)?;
+        let role = self.role.copy(alloc)?;
+        let settings = self.settings.copy(alloc)?;
         Ok(Start {
-            place: self.place.copy(alloc)?,
+            place,
             block: self.block,
-            locals: self.locals.copy(alloc)?,
-            settings: self.settings.copy(alloc)?,
+            locals,
+            settings,
             seed: self.seed,
-            role: self.role.copy(alloc)?,
+            role,
             until: self.until,
         })
     }

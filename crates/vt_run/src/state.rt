@@ -1,3 +1,5 @@
+//! Where a thread stands in its evaluation.
+
 ghost use Rattle.std.specs.Prelude.{◌≡◌, [], ◌∷◌, ◌++◌, OnErr, OnOk};
 
 use crate::Settings;
@@ -9,7 +11,7 @@ use vt_rand::Stream;
 use vt_value::Integer;
 
 /// The tick counters of a thread, each its name and its number. A counter that is not there has not ticked.
-#[derive(Debug, Drop)]
+#[derive(Drop)]
 pub struct Ticks {
     items: Vec<(Name, Integer)>,
 }
@@ -50,7 +52,7 @@ impl Ticks {
 }
 
 /// Where a thread stands in its evaluation: all that its statements may change.
-#[derive(Debug, Drop)]
+#[derive(Drop)]
 pub struct State {
     /// The time, in seconds.
     pub time: Frac,

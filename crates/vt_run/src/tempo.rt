@@ -1,3 +1,5 @@
+//! Tempos, in beats per minute.
+
 ghost use Rattle.std.specs.Prelude.{◌≡◌, ◌↔◌, IfSome, IsSome, IsTrue};
 ghost use Rattle.vt_run.specs.Tempo.{is_tempo};
 
@@ -5,7 +7,7 @@ use std::marker::Model;
 use vt_frac::Frac;
 
 /// A tempo in beats per minute: a fraction above 0. Contracts see it as that fraction.
-#[derive(Clone, Copy, Debug)]
+#[derive(Clone, Copy)]
 pub struct Tempo {
     beats: Frac,
 }

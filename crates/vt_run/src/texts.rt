@@ -1,5 +1,7 @@
+//! The texts of a session, each with its verdict.
+
 ghost use Rattle.std.specs.Prelude.{◌≡◌, [], ◌∷◌, ◌++◌, OnErr, OnOk};
-ghost use Rattle.vt_run.specs.Limits.{IsVerdictChecked};
+ghost use Rattle.vt_run.specs.private.Verdicts.{IsVerdictChecked};
 
 use std::alloc::Global;
 use std::marker::Model;
@@ -8,7 +10,7 @@ use vt_frac::{Frac, NoMemory};
 use vt_value::FaultKind;
 
 /// What a text is found to be.
-#[derive(Debug, Drop)]
+#[derive(Drop)]
 pub enum Verdict {
     /// It is read, and the checks allow it.
     Good(Checked),
@@ -18,7 +20,7 @@ pub enum Verdict {
 
 /// The texts of a session in order, each with the time at which it starts, in seconds, and its verdict. Text number k is
 /// the k-th, from 1.
-#[derive(Debug, Drop)]
+#[derive(Drop)]
 pub struct Texts {
     items: Vec<(Frac, Verdict)>,
 }

@@ -11,7 +11,7 @@ use Rattle.vt_table.specs.Names.{row_of}
 use Rattle.vt_table.specs.declared.calls.CallName.{CallName}
 use Rattle.vt_table.specs.declared.calls.CallName.TheVariants.{Abs}
 use Rattle.vt_table.specs.Calls.{Call, calls, names_of, call_at, number_of, as_row, call_row_at, call_row, call_named}
-use Rattle.vt_table.specs.Entries.{row_of_entry}
+use Rattle.vt_table.specs.private.Entries.{row_of_entry}
 
 -- how many rows there are
 length-calls : length calls ≡ CALL_COUNT

@@ -1,5 +1,5 @@
 pub mod Calls
-pub mod Entries
+pub mod private
 pub mod Lists
 pub mod Names
 pub mod Notes

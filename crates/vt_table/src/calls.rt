@@ -1,6 +1,8 @@
+//! The calls of the language.
+
 ghost use Rattle.std.specs.Prelude.{◌≡◌, ◌↔◌, ◌<◌, Contains, IfSome, IsNone, Some, slice_get};
 ghost use Rattle.vt_table.specs.Calls.{call_at, call_named, call_row, calls, names_of, number_of};
-ghost use Rattle.vt_table.specs.Entries.{row_of_entry};
+ghost use Rattle.vt_table.specs.private.Entries.{row_of_entry};
 ghost use Rattle.vt_table.specs.Names.{row_of};
 
 use crate::names::{Named, row_named};

@@ -5,8 +5,6 @@ mod calls;
 mod lists;
 mod names;
 mod notes;
-#[cfg(test)]
-mod tests;
 
 pub use calls::{CALL_COUNT, CallName, CallRow, Need, call_of};
 pub use lists::{chord_of, scale_of};

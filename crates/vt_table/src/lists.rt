@@ -1,3 +1,5 @@
+//! Scales and chords by name.
+
 ghost use Rattle.std.specs.Prelude.{◌≡◌, ◌↔◌, ◌<◌, Contains, IsNone, Some};
 ghost use Rattle.std.specs.Option.{option_copied};
 ghost use Rattle.vt_table.specs.Lists.{chords, chord_intervals, list_at, names_of, scales, scale_steps};

@@ -1,3 +1,5 @@
+//! Names in order, and the row of a name.
+
 ghost use Rattle.std.specs.Prelude.{◌≡◌, ◌↔◌, ◌<◌, ◌≤◌, Contains, IfSome, IsNone, IsTrue, List, length, map, ℕ};
 ghost use Rattle.vt_table.specs.Names.{rises, row_of};
 

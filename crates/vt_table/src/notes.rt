@@ -1,3 +1,5 @@
+//! Notes by name.
+
 ghost use Rattle.std.specs.Prelude.{◌≡◌, ◌<◌, ◌≤ℤ◌, IfSome, pos, negsuc};
 ghost use Rattle.vt_table.specs.Notes.{note_number, octave_of, pitch_of, shift_of, spelled};
 

@@ -5,8 +5,6 @@ mod deeds;
 mod lines;
 mod parts;
 mod score;
-#[cfg(test)]
-mod tests;
 
 pub use lines::line;
 pub use score::score_text;

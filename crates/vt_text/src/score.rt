@@ -1,13 +1,29 @@
 //! The whole text.
 
 ghost use Rattle.std.specs.Prelude.{◌≡◌, ◌++◌, IfOk, OnOk, length};
-ghost use Rattle.vt_text.specs.ScoreText.{event_lines, living_lines, score_text_of, shown};
+ghost use Rattle.vt_text.specs.ScoreText.{event_line, event_lines, living_line, living_lines, newline, score_text_of, shown};
 
 use crate::lines::{write_event, write_living};
 use crate::parts::{write_bytes, write_number};
 use std::alloc::Global;
 use vt_event::{Event, Living, Score};
 use vt_frac::NoMemory;
+
+/// An event's line with its newline.
+fn write_event_line(alloc: Global, out: &mut Vec<u8>, event: &Event) -> Result<(), NoMemory>
+    ensures { OnOk result (out.new.items ≡ out.old.items ++ (event_line event.now ++ newline)) }
+{
+    write_event(alloc, out, event)?;
+    write_bytes(out, b"\n")
+}
+
+/// A living thread's line with its newline.
+fn write_living_line(alloc: Global, out: &mut Vec<u8>, living: &Living) -> Result<(), NoMemory>
+    ensures { OnOk result (out.new.items ≡ out.old.items ++ (living_line living.now ++ newline)) }
+{
+    write_living(alloc, out, living)?;
+    write_bytes(out, b"\n")
+}
 
 /// The lines of the events that are shown.
 fn write_events(alloc: Global, out: &mut Vec<u8>, events: &[Event]) -> Result<(), NoMemory>
@@ -16,8 +32,7 @@ fn write_events(alloc: Global, out: &mut Vec<u8>, events: &[Event]) -> Result<()
     for event in events {
         let kind = event.kind();
         if kind.is_shown() {
-            write_event(alloc, out, event)?;
-            write_bytes(out, b"\n")?;
+            write_event_line(alloc, out, event)?;
         }
     }
     Ok(())
@@ -40,8 +55,7 @@ fn write_livings(alloc: Global, out: &mut Vec<u8>, livings: &[Living]) -> Result
     ensures { OnOk result (out.new.items ≡ out.old.items ++ living_lines livings.now) }
 {
     for living in livings {
-        write_living(alloc, out, living)?;
-        write_bytes(out, b"\n")?;
+        write_living_line(alloc, out, living)?;
     }
     Ok(())
 }

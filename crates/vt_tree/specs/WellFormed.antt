@@ -16,7 +16,8 @@ use Rattle.vt_tree.specs.declared.statement.Block.{Block, out-Block}
 use Rattle.vt_tree.specs.declared.statement.Simple.{Simple}
 use Rattle.vt_tree.specs.declared.statement.Stmt.{Stmt}
 use Rattle.vt_tree.specs.declared.statement.StmtForm.{StmtForm}
-use Rattle.vt_tree.specs.Forms.{IsName, IsLiteral, is_label_name}
+use Rattle.vt_frac.specs.Names.{IsName, is_label_name}
+use Rattle.vt_tree.specs.Forms.{IsLiteral}
 use Rattle.vt_tree.specs.Parts.{blocks}
 
 -- the operators of each kind of chain

@@ -1,3 +1,4 @@
+//! Expressions and calls.
 use crate::statement::Block;
 use sqlite_items::{Boxed, Items};
 use vt_frac::{Frac, Name};

@@ -3,8 +3,6 @@
 
 mod expression;
 mod statement;
-#[cfg(test)]
-mod tests;
 
 pub use expression::{
     Call, ChainKind, ChainOp, Expr, Exprs, Labelled, Link, Links, Literal, Names, Node, UnaryOp,

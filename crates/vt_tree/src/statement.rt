@@ -1,3 +1,4 @@
+//! Statements, blocks and branches.
 use crate::expression::{Expr, Names};
 use sqlite_items::Items;
 use vt_frac::Name;

@@ -6,7 +6,7 @@ use Rattle.vt_value.specs.declared.value.Value.TheVariants.{Ring, rolls-Ring}
 use Rattle.vt_value.specs.declared.value.Value.TheOpen.{Value-F}
 use Rattle.vt_value.specs.declared.value.Value.TheFolds.{fold-roll-Value, fold_out-Value}
 use Rattle.vt_value.specs.Kinds.{items_of, items_layer, ring_of, ring_layer, text_bytes, text_bytes_layer}
-use Rattle.vt_value.specs.Weights.{weight_layer, weight_of, weights_of}
+use Rattle.vt_value.specs.private.Weights.{weight_layer, weight_of, weights_of}
 use Rattle.vt_value.specs.Sizes.{size_layer, size_of, sizes_of}
 
 -- a value with items is the ring of them
@@ -26,12 +26,9 @@ ring_of_items value first rest h = sym (roll-out-Value value) ∙ items-ring (ou
 pub weight-Ring : (items : List Value) → weight_of (Ring items) ≡ 2 + weights_of items
 weight-Ring items = ap weight_of (sym (rolls-Ring items)) ∙ fold-roll-Value ℕ weight_layer (Value-F.Ring items)
 
-pub weight-positive : (value : Value) → 2 ≤ weight_of value
-weight-positive value = subst (λ n. 2 ≤ n) (sym (fold_out-Value ℕ weight_layer value)) (omega arith)
-
-pub weights-append : (front back : List Value) → weights_of (front ++ back) ≡ weights_of front + weights_of back
-weights-append [] back = omega arith
-weights-append (value ∷ front) back = omega (arith, weights-append front back)
+pub weights-append : (prefix suffix : List Value) → weights_of (prefix ++ suffix) ≡ weights_of prefix + weights_of suffix
+weights-append [] suffix = omega arith
+weights-append (value ∷ prefix) suffix = omega (arith, weights-append prefix suffix)
 
 pub weight-items : (value : Value) → weight_of value ≡ 2 + weights_of (items_of value)
 weight-items value = fold_out-Value ℕ weight_layer value ∙ items-weights (out-Value value)
@@ -54,9 +51,9 @@ pub size-Ring : (items : List Value) → size_of (Ring items) ≡ 1 + sizes_of i
 unfolding size_of
 size-Ring items = ap size_of (sym (rolls-Ring items)) ∙ fold-roll-Value ℕ size_layer (Value-F.Ring items)
 
-pub sizes-append : (front back : List Value) → sizes_of (front ++ back) ≡ sizes_of front + sizes_of back
-sizes-append [] back = omega arith
-sizes-append (value ∷ front) back = omega (arith, sizes-append front back)
+pub sizes-append : (prefix suffix : List Value) → sizes_of (prefix ++ suffix) ≡ sizes_of prefix + sizes_of suffix
+sizes-append [] suffix = omega arith
+sizes-append (value ∷ prefix) suffix = omega (arith, sizes-append prefix suffix)
 
 -- what the items of a ring weigh
 ring-weights : (layer : Value-F Value) (items : List Value) → Some items ≡ ring_layer layer → weight_layer (map-Value Value ℕ weight_of layer) ≡ 2 + weights_of items
@@ -96,15 +93,15 @@ pub size-other : (value : Value) → None ≡ text_bytes value → items_of valu
 size-other value h k = size-layer value ∙ other-size (out-Value value) h k
 
 -- a value with items, by one of them
-pub ring_of_parts : (value item : Value) (front back : List Value) → items_of value ≡ front ++ item ∷ back → value ≡ Ring (front ++ item ∷ back)
-ring_of_parts value item [] back h = ring_of_items value item back h
-ring_of_parts value item (first ∷ front) back h = ring_of_items value first (front ++ item ∷ back) h
+pub ring_of_parts : (value item : Value) (prefix suffix : List Value) → items_of value ≡ prefix ++ item ∷ suffix → value ≡ Ring (prefix ++ item ∷ suffix)
+ring_of_parts value item [] suffix h = ring_of_items value item suffix h
+ring_of_parts value item (first ∷ prefix) suffix h = ring_of_items value first (prefix ++ item ∷ suffix) h
 
-pub size-parts : (value item : Value) (front back : List Value) → items_of value ≡ front ++ item ∷ back → size_of value ≡ 1 + (sizes_of front + (size_of item + sizes_of back))
-size-parts value item front back h = ap size_of (ring_of_parts value item front back h) ∙ size-Ring (front ++ item ∷ back) ∙ omega (arith, sizes-append front (item ∷ back))
+pub size-parts : (value item : Value) (prefix suffix : List Value) → items_of value ≡ prefix ++ item ∷ suffix → size_of value ≡ 1 + (sizes_of prefix + (size_of item + sizes_of suffix))
+size-parts value item prefix suffix h = ap size_of (ring_of_parts value item prefix suffix h) ∙ size-Ring (prefix ++ item ∷ suffix) ∙ omega (arith, sizes-append prefix (item ∷ suffix))
 
-pub weight-parts : (value item : Value) (front back : List Value) → items_of value ≡ front ++ item ∷ back → weight_of value ≡ 2 + (weights_of front + (weight_of item + weights_of back))
-weight-parts value item front back h = weight-items value ∙ omega (arith, ap weights_of h, weights-append front (item ∷ back))
+pub weight-parts : (value item : Value) (prefix suffix : List Value) → items_of value ≡ prefix ++ item ∷ suffix → weight_of value ≡ 2 + (weights_of prefix + (weight_of item + weights_of suffix))
+weight-parts value item prefix suffix h = weight-items value ∙ omega (arith, ap weights_of h, weights-append prefix (item ∷ suffix))
 
 -- nothing is left behind the last item
 pub nothing_left : (values : List Value) (i : ℕ) → length values ≤ i → drop i values ≡ []

@@ -68,20 +68,20 @@ all_same-lengths (value ∷ values) [] h = refl
 all_same-lengths (value ∷ values) (other ∷ others) h = ap (λ (b : Bool). same_as value other && b) (all_same-lengths values others (λ e. h (omega arith))) ∙ and_false (same_as value other)
 
 -- two lists by an item at one place
-pub all_same-parts : (front others back others_back : List Value) (item across : Value) → length front ≡ length others → all_same_as (front ++ item ∷ back) (others ++ across ∷ others_back) ≡ (all_same_as front others && (same_as item across && all_same_as back others_back))
-all_same-parts [] [] back others_back item across h = refl
-all_same-parts [] (other ∷ others) back others_back item across h = absurd (omega arith)
-all_same-parts (first ∷ front) [] back others_back item across h = absurd (omega arith)
-all_same-parts (first ∷ front) (other ∷ others) back others_back item across h =
-    ap (λ (b : Bool). same_as first other && b) (all_same-parts front others back others_back item across (omega arith))
-    ∙ and_assoc (same_as first other) (all_same_as front others) (same_as item across && all_same_as back others_back)
+pub all_same-parts : (prefix others suffix others_back : List Value) (item across : Value) → length prefix ≡ length others → all_same_as (prefix ++ item ∷ suffix) (others ++ across ∷ others_back) ≡ (all_same_as prefix others && (same_as item across && all_same_as suffix others_back))
+all_same-parts [] [] suffix others_back item across h = refl
+all_same-parts [] (other ∷ others) suffix others_back item across h = absurd (omega arith)
+all_same-parts (first ∷ prefix) [] suffix others_back item across h = absurd (omega arith)
+all_same-parts (first ∷ prefix) (other ∷ others) suffix others_back item across h =
+    ap (λ (b : Bool). same_as first other && b) (all_same-parts prefix others suffix others_back item across (omega arith))
+    ∙ and_assoc (same_as first other) (all_same_as prefix others) (same_as item across && all_same_as suffix others_back)
 
 -- two values with items, by an item at one place
-pub same-parts : (value other item across : Value) (front back others others_back : List Value) → items_of value ≡ front ++ item ∷ back → items_of other ≡ others ++ across ∷ others_back → length front ≡ length others → same_as value other ≡ (all_same_as front others && (same_as item across && all_same_as back others_back))
-same-parts value other item across front back others others_back h k e =
-    same-Ring value other (front ++ item ∷ back) (ring_of_parts value item front back h)
-    ∙ ap (λ (o : Option (List Value)). pass_ring (map same_as (front ++ item ∷ back)) o) (ap ring_of (ring_of_parts other across others others_back k) ∙ ap (λ (x : Value-F Value). ring_layer x) (outs-Ring (others ++ across ∷ others_back)))
-    ∙ all_same-parts front others back others_back item across e
+pub same-parts : (value other item across : Value) (prefix suffix others others_back : List Value) → items_of value ≡ prefix ++ item ∷ suffix → items_of other ≡ others ++ across ∷ others_back → length prefix ≡ length others → same_as value other ≡ (all_same_as prefix others && (same_as item across && all_same_as suffix others_back))
+same-parts value other item across prefix suffix others others_back h k e =
+    same-Ring value other (prefix ++ item ∷ suffix) (ring_of_parts value item prefix suffix h)
+    ∙ ap (λ (o : Option (List Value)). pass_ring (map same_as (prefix ++ item ∷ suffix)) o) (ap ring_of (ring_of_parts other across others others_back k) ∙ ap (λ (x : Value-F Value). ring_layer x) (outs-Ring (others ++ across ∷ others_back)))
+    ∙ all_same-parts prefix others suffix others_back item across e
 
 uneven : (items : List Value) (layer : Value-F Value) → length items ≢ length (items_layer layer) → pass_ring (map same_as items) (ring_layer layer) ≡ false
 uneven items Value-F.Nil h = refl
@@ -93,9 +93,9 @@ uneven items (Value-F.Text t) h = refl
 uneven items (Value-F.Ring others) h = all_same-lengths items others h
 
 -- the other value has too few items
-pub same-uneven : (value other item : Value) (front back : List Value) → items_of value ≡ front ++ item ∷ back → length (items_of other) ≤ length front → same_as value other ≡ false
-same-uneven value other item front back h few =
-    same-Ring value other (front ++ item ∷ back) (ring_of_parts value item front back h) ∙ uneven (front ++ item ∷ back) (out-Value other) (longer front (item ∷ back) (length (items_of other)) few (omega arith))
+pub same-uneven : (value other item : Value) (prefix suffix : List Value) → items_of value ≡ prefix ++ item ∷ suffix → length (items_of other) ≤ length prefix → same_as value other ≡ false
+same-uneven value other item prefix suffix h few =
+    same-Ring value other (prefix ++ item ∷ suffix) (ring_of_parts value item prefix suffix h) ∙ uneven (prefix ++ item ∷ suffix) (out-Value other) (longer prefix (item ∷ suffix) (length (items_of other)) few (omega arith))
   where
-    longer : (front back : List Value) (n : ℕ) → n ≤ length front → 0 < length back → length (front ++ back) ≢ n
-    longer front back n few some e = omega (arith, length-append front back)
+    longer : (prefix suffix : List Value) (n : ℕ) → n ≤ length prefix → 0 < length suffix → length (prefix ++ suffix) ≢ n
+    longer prefix suffix n few some e = omega (arith, length-append prefix suffix)

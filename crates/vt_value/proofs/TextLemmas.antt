@@ -11,8 +11,8 @@ use Rattle.vt_value.specs.declared.value.Value.TheFolds.{fold-roll-Value}
 use Rattle.vt_value.specs.declared.write.Left.{Left}
 use Rattle.vt_value.specs.Kinds.{items_of, items_layer}
 use Rattle.vt_value.specs.Text.{value_text, text_layer, bool_text, quoted, between_commas, after_commas}
-use Rattle.vt_value.specs.Walks.{left_text, left_weight, rest_text}
-use Rattle.vt_value.specs.Weights.{weights_of}
+use Rattle.vt_value.specs.private.Walks.{left_text, left_weight, rest_text}
+use Rattle.vt_value.specs.private.Weights.{weights_of}
 use Rattle.vt_value.proofs.Layers.{ring_of_items}
 
 from-layer : (value : Value) (layer : Value-F Value) → roll-Value layer ≡ value → value_text value ≡ text_layer (map-Value Value (List ℕ) value_text layer)

@@ -4,8 +4,8 @@ use Rattle.vt_value.specs.declared.value.Value.{Value}
 use Rattle.vt_value.specs.declared.value.Value.TheVariants.{Ring}
 use Rattle.vt_value.specs.declared.copy.OpenRing.{OpenRing}
 use Rattle.vt_value.specs.Kinds.{items_of}
-use Rattle.vt_value.specs.Walks.{assembled, open_weight}
-use Rattle.vt_value.specs.Weights.{weights_of}
+use Rattle.vt_value.specs.private.Walks.{assembled, open_weight}
+use Rattle.vt_value.specs.private.Weights.{weights_of}
 use Rattle.vt_value.proofs.Layers.{ring_of_items}
 
 pub assembled-append : (rings : List OpenRing) (ring : OpenRing) (value : Value) → assembled (rings ++ ring ∷ []) value ≡ assembled rings (Ring (ring.made.items ++ value ∷ ring.rest.now))

@@ -4,11 +4,9 @@ pub mod Comparison
 pub mod Faults
 pub mod formers
 pub mod Kinds
-pub mod Operands
+pub mod Limits
+pub mod private
 pub mod Same
 pub mod Sizes
-pub mod SymbolName
 pub mod Text
 pub mod Totals
-pub mod Walks
-pub mod Weights

@@ -4,7 +4,7 @@ ghost use Rattle.std.specs.Prelude.{◌≡◌, ◌≢◌, ◌++◌, ℤ, pos, Ok
 ghost use Rattle.std.specs.Option.{option_copied};
 ghost use Rattle.vt_value.specs.Answers.{Gives};
 ghost use Rattle.vt_value.specs.Arithmetic.{arith_of, as_part, as_whole, exact_arith, fitting, floor_div, floor_rem, whole_arith};
-ghost use Rattle.vt_value.specs.Operands.{number_arith, ring_arith, text_arith};
+ghost use Rattle.vt_value.specs.private.Operands.{number_arith, ring_arith, text_arith};
 
 use crate::integer::fraction;
 use crate::join::{join_rings, join_texts};

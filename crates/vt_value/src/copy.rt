@@ -2,8 +2,8 @@
 
 ghost use Rattle.std.specs.Prelude.{◌≡◌, ◌+◌, ◌≤◌, [], map, length, IfOk};
 ghost use Rattle.vt_value.specs.Kinds.{items_of};
-ghost use Rattle.vt_value.specs.Walks.{assembled, climbed_from, climbed_weight, open_weight};
-ghost use Rattle.vt_value.specs.Weights.{weight_of, weights_of};
+ghost use Rattle.vt_value.specs.private.Walks.{assembled, climbed_from, climbed_weight, open_weight};
+ghost use Rattle.vt_value.specs.private.Weights.{weight_of, weights_of};
 
 use crate::{Items, Value};
 use std::alloc::Global;

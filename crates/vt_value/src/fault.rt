@@ -1,59 +1,46 @@
+//! Why a thread ends by a fault, and why there is no value.
+
 ghost use Rattle.std.specs.Prelude.{◌≡◌};
 ghost use Rattle.vt_value.specs.Faults.{fault_word};
 
-use thiserror::Error;
+use std::error::Error;
+use std::fmt;
 use vt_frac::NoMemory;
 
 /// Why a thread ends by a fault, or a text is refused.
-#[derive(Clone, Copy, Debug, PartialEq, Eq, Error)]
+#[derive(Clone, Copy, Debug, PartialEq, Eq)]
 pub enum FaultKind {
     /// A number is out of its range.
-    #[error("overflow")]
     Overflow,
     /// The divisor is 0.
-    #[error("zero_divisor")]
     ZeroDivisor,
     /// A value is of a kind that does not go here.
-    #[error("wrong_kind")]
     WrongKind,
     /// A number is outside what its place allows.
-    #[error("bad_value")]
     BadValue,
     /// A symbol is no note.
-    #[error("bad_note")]
     BadNote,
     /// A text is no path or pattern.
-    #[error("bad_path")]
     BadPath,
     /// A ring without an item is asked for one.
-    #[error("empty_ring")]
     EmptyRing,
     /// A text, a ring or its size is above the limits.
-    #[error("too_large")]
     TooLarge,
     /// Blocks, calls and brackets are too deep within one another.
-    #[error("too_deep")]
     TooDeep,
     /// Threads are started too deep within one another.
-    #[error("too_nested")]
     TooNested,
     /// No local, call or function has this name.
-    #[error("unknown_name")]
     UnknownName,
     /// A call has too few or too many arguments.
-    #[error("wrong_count")]
     WrongCount,
     /// A turn of a loop neither slept nor waited.
-    #[error("no_sleep")]
     NoSleep,
     /// A text has a token that cannot be formed.
-    #[error("lex")]
     Lex,
     /// A text is not of the grammar.
-    #[error("syntax")]
     Syntax,
     /// A text has a call that is not allowed.
-    #[error("check")]
     Check,
 }
 
@@ -83,8 +70,21 @@ impl FaultKind {
     }
 }
 
+impl fmt::Display for FaultKind {
+    ghost use Rattle.std.specs.Prelude.{Some};
+    ghost use Rattle.vt_value.specs.Faults.{fault_word};
+
+    ghost output = { λ kind. Some (fault_word kind) };
+
+    fn fmt<W: fmt::Write>(&self, f: &mut fmt::Formatter<W>) -> fmt::Result {
+        f.write_str(self.word())
+    }
+}
+
+impl Error for FaultKind {}
+
 /// Why there is no value for an answer.
-#[derive(Clone, Copy, Debug, PartialEq, Eq, Error)]
+#[derive(Clone, Copy, Debug, PartialEq, Eq, thiserror::Error)]
 pub enum ValueFault {
     /// By the rules of the language.
     #[error("{0}")]

@@ -1,3 +1,5 @@
+//! Whole numbers within their range.
+
 ghost use Rattle.std.specs.Prelude.{◌≡◌, ◌↔◌, ◌^◌, ◌<◌, unsigned_abs, IsSome, IfSome};
 ghost use Rattle.vt_frac.specs.Fraction.{whole};
 
@@ -34,6 +36,7 @@ impl Integer {
         Some(Integer { number })
     }
 
+    /// Its number.
     pub fn get(&self) -> i64
         ensures value { result ≡ self.now }
         ensures within { unsigned_abs self.now < 2 ^ 63 }

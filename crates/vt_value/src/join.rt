@@ -10,9 +10,11 @@ use std::alloc::Global;
 use vt_frac::{Name, NoMemory};
 
 /// How many bytes a text may have.
-pub const MAX_BYTES: usize = 4_096;
+const MAX_BYTES: usize = 4_096;
+
 /// How many items a ring may have.
 pub const MAX_ITEMS: usize = 4_096;
+
 /// How large a value may be.
 pub const MAX_SIZE: u64 = 65_536;
 
@@ -30,55 +32,55 @@ impl Value {
 }
 
 /// The text of both.
-pub(crate) fn join_texts(alloc: Global, front: &[u8], back: &[u8]) -> Result<Value, ValueFault>
-    ensures { Gives (text_within (front.now ++ back.now)) result }
+pub(crate) fn join_texts(alloc: Global, first: &[u8], second: &[u8]) -> Result<Value, ValueFault>
+    ensures { Gives (text_within (first.now ++ second.now)) result }
 {
-    if front.len() > MAX_BYTES || back.len() > MAX_BYTES - front.len() {
+    if first.len() > MAX_BYTES || second.len() > MAX_BYTES - first.len() {
         return Err(ValueFault::Fault(FaultKind::TooLarge));
     }
-    let bytes = both_texts(alloc, front, back)?;
+    let bytes = both_texts(alloc, first, second)?;
     Ok(Value::Text(bytes))
 }
 
-fn both_texts(alloc: Global, front: &[u8], back: &[u8]) -> Result<Name, NoMemory>
-    ensures { IfOk result (λ name. name ≡ front.now ++ back.now) }
+fn both_texts(alloc: Global, first: &[u8], second: &[u8]) -> Result<Name, NoMemory>
+    ensures { IfOk result (λ name. name ≡ first.now ++ second.now) }
 {
-    let mut bytes = Vec::from_slice(alloc, front)?;
-    bytes.extend_from_slice(back)?;
+    let mut bytes = Vec::from_slice(alloc, first)?;
+    bytes.extend_from_slice(second)?;
     Name::of(alloc, bytes.as_slice())
 }
 
 /// The ring of the items of both.
 pub(crate) fn join_rings(
     alloc: Global,
-    front: &[Value],
-    back: &[Value],
+    first: &[Value],
+    second: &[Value],
 ) -> Result<Value, ValueFault>
-    ensures { Gives (ring_within (front.now ++ back.now)) result }
+    ensures { Gives (ring_within (first.now ++ second.now)) result }
 {
-    if !is_within(front, back) {
+    if !is_within(first, second) {
         return Err(ValueFault::Fault(FaultKind::TooLarge));
     }
-    let items = both_rings(alloc, front, back)?;
+    let items = both_rings(alloc, first, second)?;
     Ok(Value::Ring(items))
 }
 
 /// Whether a ring of the items of both is within the limits.
-fn is_within(front: &[Value], back: &[Value]) -> bool
-    ensures { result ≡ are_within (front.now ++ back.now) }
+fn is_within(first: &[Value], second: &[Value]) -> bool
+    ensures { result ≡ are_within (first.now ++ second.now) }
 {
-    if front.len() > MAX_ITEMS || back.len() > MAX_ITEMS - front.len() {
+    if first.len() > MAX_ITEMS || second.len() > MAX_ITEMS - first.len() {
         return false;
     }
-    sizes(front).saturating_add(sizes(back)) < MAX_SIZE
+    sizes(first).saturating_add(sizes(second)) < MAX_SIZE
 }
 
-fn both_rings(alloc: Global, front: &[Value], back: &[Value]) -> Result<Items, NoMemory>
-    ensures { IfOk result (λ items. items ≡ front.now ++ back.now) }
+fn both_rings(alloc: Global, first: &[Value], second: &[Value]) -> Result<Items, NoMemory>
+    ensures { IfOk result (λ items. items ≡ first.now ++ second.now) }
 {
     let mut items = Vec::new(alloc);
-    push_copies(alloc, &mut items, front)?;
-    push_copies(alloc, &mut items, back)?;
+    push_copies(alloc, &mut items, first)?;
+    push_copies(alloc, &mut items, second)?;
     Ok(Items::from_vec(items))
 }
 

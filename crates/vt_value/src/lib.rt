@@ -13,8 +13,6 @@ mod kinds;
 mod same;
 mod size;
 mod symbol;
-#[cfg(test)]
-mod tests;
 mod value;
 mod write;
 
@@ -23,7 +21,7 @@ pub use comparison::{OrderOp, compare};
 pub use fault::{FaultKind, ValueFault};
 pub use integer::Integer;
 pub use items::Items;
-pub use join::{MAX_BYTES, MAX_ITEMS, MAX_SIZE};
+pub use join::{MAX_ITEMS, MAX_SIZE};
 pub use size::sizes;
-pub use symbol::{Symbol, is_symbol_name};
+pub use symbol::Symbol;
 pub use value::Value;

@@ -20,13 +20,13 @@ impl Value {
         let mut left = self;
         let mut right = other;
         while let Some(parts) = by_heaviest(left.items()) {
-            let Some(across) = by_item(right.items(), parts.front.len()) else {
+            let Some(across) = by_item(right.items(), parts.prefix.len()) else {
                 return false;
             };
-            if !all_same(parts.front, across.front) {
+            if !all_same(parts.prefix, across.prefix) {
                 return false;
             }
-            if !all_same(parts.back, across.back) {
+            if !all_same(parts.suffix, across.suffix) {
                 return false;
             }
             left = parts.item;

@@ -16,7 +16,7 @@ impl Value {
         let mut before: u64 = 0;
         let mut value = self;
         while let Some(parts) = by_heaviest(value.items()) {
-            let beside = sizes(parts.front).saturating_add(sizes(parts.back));
+            let beside = sizes(parts.prefix).saturating_add(sizes(parts.suffix));
             before = before.saturating_add(1).saturating_add(beside);
             value = parts.item;
         }

@@ -1,10 +1,11 @@
+//! Symbols.
+
 ghost use Rattle.std.specs.Prelude.{◌≡◌, ◌↔◌, IsTrue, IsSome, IfSome, IfOk};
-ghost use Rattle.std.specs.List.{list_all};
-ghost use Rattle.vt_value.specs.SymbolName.{begins_name, goes_on_name, is_symbol_name};
+ghost use Rattle.vt_frac.specs.Names.{is_symbol_name};
 
 use std::alloc::Global;
 use std::marker::Model;
-use vt_frac::{Name, NoMemory};
+use vt_frac::{Name, NoMemory, is_symbol_name};
 
 /// The name of a symbol: a letter or `_`, then letters, digits and `_`, 1 to 64 bytes in all. Contracts see it as its bytes.
 #[derive(Debug, Drop)]
@@ -14,7 +15,7 @@ pub struct Symbol {
 
 impl Model for Symbol {
     ghost use Rattle.std.specs.Prelude.{List, ℕ, IsTrue};
-    ghost use Rattle.vt_value.specs.SymbolName.{is_symbol_name};
+    ghost use Rattle.vt_frac.specs.Names.{is_symbol_name};
 
     ghost Value = { List ℕ };
 
@@ -51,38 +52,4 @@ impl Symbol {
     {
         self.name.as_bytes()
     }
-}
-
-/// Whether the bytes are a symbol's name.
-pub fn is_symbol_name(name: &[u8]) -> bool
-    ensures { result ≡ is_symbol_name name.now }
-{
-    let Some((first, _)) = name.split_first() else {
-        return false;
-    };
-    if name.len() > 64 {
-        return false;
-    }
-    if !begins_name(*first) {
-        return false;
-    }
-    all_go_on(name)
-}
-
-fn all_go_on(name: &[u8]) -> bool
-    ensures { result ≡ list_all goes_on_name name.now }
-{
-    name.iter().all(|byte| goes_on_name(*byte))
-}
-
-fn begins_name(byte: u8) -> bool
-    ensures { result ≡ begins_name byte }
-{
-    byte.is_ascii_alphabetic() || byte == b'_'
-}
-
-fn goes_on_name(byte: u8) -> bool
-    ensures { result ≡ goes_on_name byte }
-{
-    byte.is_ascii_alphanumeric() || byte == b'_'
 }

@@ -1,6 +1,8 @@
+//! Values, and how they are let go.
+
 ghost use Rattle.std.specs.Prelude.{◌≡◌, ◌+◌, ◌<◌, ◌≤◌, vec_len};
 ghost use Rattle.vt_value.specs.Kinds.{is_truthy, number_of, ring_of};
-ghost use Rattle.vt_value.specs.Weights.{weight_of, weights_of};
+ghost use Rattle.vt_value.specs.private.Weights.{weight_of, weights_of};
 
 use crate::{Integer, Items, Symbol};
 use std::mem;
@@ -75,7 +77,7 @@ fn drop_items(mut items: Vec<Value>) {
     items.destroy_empty();
 }
 
-/// Drops the first value without an item that it comes to in `value`. What is left of `value` takes the place of `items`, which hang at its front.
+/// Drops the first value without an item that it comes to in `value`. What is left of `value` takes the place of `items`, which hang at its first place.
 fn drop_one(items: Vec<Value>, value: Value) -> Vec<Value>
     ensures { weights_of result.items < weights_of items.items + weight_of value }
 {

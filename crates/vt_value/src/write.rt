@@ -6,8 +6,8 @@ ghost use Rattle.std.specs.List.{flat_map};
 ghost use Rattle.std.specs.Option.{option_copied};
 ghost use Rattle.vt_value.specs.Kinds.{items_of};
 ghost use Rattle.vt_value.specs.Text.{bool_text, escaped, hex_digit, quoted, value_text};
-ghost use Rattle.vt_value.specs.Walks.{left_text, left_weight, next_text, next_weight};
-ghost use Rattle.vt_value.specs.Weights.{weight_of};
+ghost use Rattle.vt_value.specs.private.Walks.{left_text, left_weight, next_text, next_weight};
+ghost use Rattle.vt_value.specs.private.Weights.{weight_of};
 
 use crate::{Integer, Symbol, Value};
 use itoa::Buffer;

@@ -2,7 +2,8 @@
 
 ghost use Rattle.std.specs.Prelude.{◌≡◌, pos, IfOk, IsTrue};
 ghost use Rattle.vt_value.specs.declared.value.Value.TheVariants.{Whole};
-ghost use Rattle.vt_event.specs.EventsByKind.{blank_event, body_event, cue_event, defined_event, ended_event, fault_event, fx_event, log_event, play_event, sample_event, set_event, started_event, synth_event, took_event};
+ghost use Rattle.vt_event.specs.Event.{IsEvent};
+ghost use Rattle.vt_event.specs.EventsByKind.{body_event, cue_event, defined_event, ended_event, fault_event, fx_event, log_event, nameless_event, play_event, sample_event, set_event, started_event, synth_event, took_event};
 ghost use Rattle.vt_event.specs.Kinds.{is_note, is_sample_name};
 
 use crate::{BlockRef, Event, FxId, Kind, Locals, Options, Place};
@@ -98,68 +99,28 @@ impl Event {
     pub fn of_cue(alloc: Global, place: Place, path: Path, value: Value) -> Result<Event, NoMemory>
         ensures { IfOk result (λ event. event ≡ cue_event place path value) }
     {
-        Ok(Event {
-            place,
-            kind: Kind::Cue,
-            path: Some(path),
-            name: Name::of(alloc, &[])?,
-            value,
-            options: Options::new(alloc),
-            fx: None,
-            body: None,
-            line: 0,
-        })
+        nameless(alloc, place, Kind::Cue, Some(path), value, None, 0)
     }
 
     /// A value is set.
     pub fn of_set(alloc: Global, place: Place, path: Path, value: Value) -> Result<Event, NoMemory>
         ensures { IfOk result (λ event. event ≡ set_event place path value) }
     {
-        Ok(Event {
-            place,
-            kind: Kind::Set,
-            path: Some(path),
-            name: Name::of(alloc, &[])?,
-            value,
-            options: Options::new(alloc),
-            fx: None,
-            body: None,
-            line: 0,
-        })
+        nameless(alloc, place, Kind::Set, Some(path), value, None, 0)
     }
 
     /// A waiting thread goes on, with the path and the value that it waited for.
     pub fn of_took(alloc: Global, place: Place, path: Path, value: Value) -> Result<Event, NoMemory>
         ensures { IfOk result (λ event. event ≡ took_event place path value) }
     {
-        Ok(Event {
-            place,
-            kind: Kind::Took,
-            path: Some(path),
-            name: Name::of(alloc, &[])?,
-            value,
-            options: Options::new(alloc),
-            fx: None,
-            body: None,
-            line: 0,
-        })
+        nameless(alloc, place, Kind::Took, Some(path), value, None, 0)
     }
 
     /// A value is written out, or the values of a ring.
     pub fn of_log(alloc: Global, place: Place, value: Value) -> Result<Event, NoMemory>
         ensures { IfOk result (λ event. event ≡ log_event place value) }
     {
-        Ok(Event {
-            place,
-            kind: Kind::Log,
-            path: None,
-            name: Name::of(alloc, &[])?,
-            value,
-            options: Options::new(alloc),
-            fx: None,
-            body: None,
-            line: 0,
-        })
+        nameless(alloc, place, Kind::Log, None, value, None, 0)
     }
 
     /// A thread or a text ends by a fault, with its line in the input.
@@ -171,17 +132,15 @@ impl Event {
     ) -> Result<Event, NoMemory>
         ensures { IfOk result (λ event. event ≡ fault_event place fault line) }
     {
-        Ok(Event {
+        nameless(
+            alloc,
             place,
-            kind: Kind::Fault(fault),
-            path: None,
-            name: Name::of(alloc, &[])?,
-            value: Value::Nil,
-            options: Options::new(alloc),
-            fx: None,
-            body: None,
+            Kind::Fault(fault),
+            None,
+            Value::Nil,
+            None,
             line,
-        })
+        )
     }
 
     /// A live loop has this block as its body, with these locals; the line is that of its statement.
@@ -195,17 +154,15 @@ impl Event {
     ) -> Result<Event, NoMemory>
         ensures { IfOk result (λ event. event ≡ body_event place path block locals line) }
     {
-        Ok(Event {
+        nameless(
+            alloc,
             place,
-            kind: Kind::Body,
-            path: Some(path),
-            name: Name::of(alloc, &[])?,
-            value: Value::Nil,
-            options: Options::new(alloc),
-            fx: None,
-            body: Some((block, locals)),
+            Kind::Body,
+            Some(path),
+            Value::Nil,
+            Some((block, locals)),
             line,
-        })
+        )
     }
 
     /// A function is defined as this block, with these locals.
@@ -218,52 +175,56 @@ impl Event {
     ) -> Result<Event, NoMemory>
         ensures { IfOk result (λ event. event ≡ defined_event place path block locals) }
     {
-        Ok(Event {
+        nameless(
+            alloc,
             place,
-            kind: Kind::Defined,
-            path: Some(path),
-            name: Name::of(alloc, &[])?,
-            value: Value::Nil,
-            options: Options::new(alloc),
-            fx: None,
-            body: Some((block, locals)),
-            line: 0,
-        })
+            Kind::Defined,
+            Some(path),
+            Value::Nil,
+            Some((block, locals)),
+            0,
+        )
     }
 
     /// A named thread starts.
     pub fn of_started(alloc: Global, place: Place, path: Path) -> Result<Event, NoMemory>
         ensures { IfOk result (λ event. event ≡ started_event place path) }
     {
-        Ok(Event {
-            place,
-            kind: Kind::Started,
-            path: Some(path),
-            name: Name::of(alloc, &[])?,
-            value: Value::Nil,
-            options: Options::new(alloc),
-            fx: None,
-            body: None,
-            line: 0,
-        })
+        nameless(alloc, place, Kind::Started, Some(path), Value::Nil, None, 0)
     }
 
     /// A named thread ends.
     pub fn of_ended(alloc: Global, place: Place, path: Path) -> Result<Event, NoMemory>
         ensures { IfOk result (λ event. event ≡ ended_event place path) }
     {
-        Ok(Event {
-            place,
-            kind: Kind::Ended,
-            path: Some(path),
-            name: Name::of(alloc, &[])?,
-            value: Value::Nil,
-            options: Options::new(alloc),
-            fx: None,
-            body: None,
-            line: 0,
-        })
+        nameless(alloc, place, Kind::Ended, Some(path), Value::Nil, None, 0)
     }
+}
+
+/// An event without a name, options and effect.
+fn nameless(
+    alloc: Global,
+    place: Place,
+    kind: Kind,
+    path: Option<Path>,
+    value: Value,
+    body: Option<(BlockRef, Locals)>,
+    line: u32,
+) -> Result<Event, NoMemory>
+    requires { IsEvent (nameless_event place kind path value body line) }
+    ensures { IfOk result (λ event. event ≡ nameless_event place kind path value body line) }
+{
+    Ok(Event {
+        place,
+        kind,
+        path,
+        name: Name::of(alloc, &[])?,
+        value,
+        options: Options::new(alloc),
+        fx: None,
+        body,
+        line,
+    })
 }
 
 /// The number of an effect as a value.

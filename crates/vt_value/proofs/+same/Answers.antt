@@ -10,49 +10,49 @@ same::all_same-returns-then-left-right t c = sym (all_same-lengths c.args.left.n
 pub value::Value::same-returns-in_default-by_item : goal.value::Value::same-returns-in_default-by_item
 value::Value::same-returns-in_default-by_item t c =
     let parts = c.in-Some.parts in
-    sym (same-uneven c.loop-parts.left.now c.loop-parts.right.now parts.item.now parts.front.now parts.back.now (sym c.items.ensures ∙ c.in-Some.ensures) (omega (arith, ap length c.items-in-Some.ensures, c.in_default-by_item.ensures.parts))) ∙ c.loop-parts.invariant.0
+    sym (same-uneven c.loop-parts.left.now c.loop-parts.right.now parts.item.now parts.prefix.now parts.suffix.now (sym c.items.ensures ∙ c.in-Some.ensures) (omega (arith, ap length c.items-in-Some.ensures, c.in_default-by_item.ensures.parts))) ∙ c.loop-parts.invariant.0
 
 pub value::Value::same-all_same-requires : goal.value::Value::same-all_same-requires
 value::Value::same-all_same-requires t c =
     let parts = c.in-Some.parts in
-    (omega (arith, c.decreases, weight-parts c.loop-parts.left.now parts.item.now parts.front.now parts.back.now (sym c.items.ensures ∙ c.in-Some.ensures), c.loop-parts.invariant.1), tt)
+    (omega (arith, c.decreases, weight-parts c.loop-parts.left.now parts.item.now parts.prefix.now parts.suffix.now (sym c.items.ensures ∙ c.in-Some.ensures), c.loop-parts.invariant.1), tt)
 
 pub value::Value::same-returns-then-not-all_same : goal.value::Value::same-returns-then-not-all_same
 value::Value::same-returns-then-not-all_same t c =
     let parts = c.in-Some.parts in
     let across = c.in-Some-by_item.across in
-    let step = same-parts c.loop-parts.left.now c.loop-parts.right.now parts.item.now across.item.now parts.front.now parts.back.now across.front.now across.back.now (sym c.items.ensures ∙ c.in-Some.ensures) (sym c.items-in-Some.ensures ∙ c.in-Some-by_item.ensures.parts.0) (sym c.in-Some-by_item.ensures.parts.1) in
-    sym (sym c.loop-parts.invariant.0 ∙ step ∙ ap (λ (b : Bool). b && (same_as parts.item.now across.item.now && all_same_as parts.back.now across.back.now)) (sym c.all_same.ensures ∙ c.if-not-all_same.true))
+    let step = same-parts c.loop-parts.left.now c.loop-parts.right.now parts.item.now across.item.now parts.prefix.now parts.suffix.now across.prefix.now across.suffix.now (sym c.items.ensures ∙ c.in-Some.ensures) (sym c.items-in-Some.ensures ∙ c.in-Some-by_item.ensures.parts.0) (sym c.in-Some-by_item.ensures.parts.1) in
+    sym (sym c.loop-parts.invariant.0 ∙ step ∙ ap (λ (b : Bool). b && (same_as parts.item.now across.item.now && all_same_as parts.suffix.now across.suffix.now)) (sym c.all_same.ensures ∙ c.if-not-all_same.true))
 
 pub value::Value::same-all_same-requires-in-Some : goal.value::Value::same-all_same-requires-in-Some
 value::Value::same-all_same-requires-in-Some t c =
     let parts = c.in-Some.parts in
-    (omega (arith, c.decreases, weight-parts c.loop-parts.left.now parts.item.now parts.front.now parts.back.now (sym c.items.ensures ∙ c.in-Some.ensures), c.loop-parts.invariant.1), tt)
+    (omega (arith, c.decreases, weight-parts c.loop-parts.left.now parts.item.now parts.prefix.now parts.suffix.now (sym c.items.ensures ∙ c.in-Some.ensures), c.loop-parts.invariant.1), tt)
 
 pub value::Value::same-returns-then-not-all_same-2 : goal.value::Value::same-returns-then-not-all_same-2
 value::Value::same-returns-then-not-all_same-2 t c =
     let parts = c.in-Some.parts in
     let across = c.in-Some-by_item.across in
-    let step = same-parts c.loop-parts.left.now c.loop-parts.right.now parts.item.now across.item.now parts.front.now parts.back.now across.front.now across.back.now (sym c.items.ensures ∙ c.in-Some.ensures) (sym c.items-in-Some.ensures ∙ c.in-Some-by_item.ensures.parts.0) (sym c.in-Some-by_item.ensures.parts.1) in
+    let step = same-parts c.loop-parts.left.now c.loop-parts.right.now parts.item.now across.item.now parts.prefix.now parts.suffix.now across.prefix.now across.suffix.now (sym c.items.ensures ∙ c.in-Some.ensures) (sym c.items-in-Some.ensures ∙ c.in-Some-by_item.ensures.parts.0) (sym c.in-Some-by_item.ensures.parts.1) in
     sym (sym c.loop-parts.invariant.0 ∙ step
-    ∙ ap (λ (b : Bool). all_same_as parts.front.now across.front.now && (same_as parts.item.now across.item.now && b)) (sym c.all_same-in-Some.ensures ∙ c.if-not-all_same-2.true)
-    ∙ ap (λ (b : Bool). all_same_as parts.front.now across.front.now && b) (and_false (same_as parts.item.now across.item.now))
-    ∙ and_false (all_same_as parts.front.now across.front.now))
+    ∙ ap (λ (b : Bool). all_same_as parts.prefix.now across.prefix.now && (same_as parts.item.now across.item.now && b)) (sym c.all_same-in-Some.ensures ∙ c.if-not-all_same-2.true)
+    ∙ ap (λ (b : Bool). all_same_as parts.prefix.now across.prefix.now && b) (and_false (same_as parts.item.now across.item.now))
+    ∙ and_false (all_same_as parts.prefix.now across.prefix.now))
 
 pub value::Value::same-loop-parts-smaller : goal.value::Value::same-loop-parts-smaller
 value::Value::same-loop-parts-smaller t c =
     let parts = c.in-Some.parts in
-    omega (arith, weight-parts c.loop-parts.left.now parts.item.now parts.front.now parts.back.now (sym c.items.ensures ∙ c.in-Some.ensures))
+    omega (arith, weight-parts c.loop-parts.left.now parts.item.now parts.prefix.now parts.suffix.now (sym c.items.ensures ∙ c.in-Some.ensures))
 
 pub value::Value::same-loop-parts-preserved : goal.value::Value::same-loop-parts-preserved
 value::Value::same-loop-parts-preserved t c =
     let parts = c.in-Some.parts in
     let across = c.in-Some-by_item.across in
     let items = sym c.items.ensures ∙ c.in-Some.ensures in
-    let step = same-parts c.loop-parts.left.now c.loop-parts.right.now parts.item.now across.item.now parts.front.now parts.back.now across.front.now across.back.now items (sym c.items-in-Some.ensures ∙ c.in-Some-by_item.ensures.parts.0) (sym c.in-Some-by_item.ensures.parts.1) in (
+    let step = same-parts c.loop-parts.left.now c.loop-parts.right.now parts.item.now across.item.now parts.prefix.now parts.suffix.now across.prefix.now across.suffix.now items (sym c.items-in-Some.ensures ∙ c.in-Some-by_item.ensures.parts.0) (sym c.in-Some-by_item.ensures.parts.1) in (
       sym (sym c.loop-parts.invariant.0 ∙ step
-          ∙ ap (λ (b : Bool). b && (same_as parts.item.now across.item.now && all_same_as parts.back.now across.back.now)) (sym c.all_same.ensures ∙ c.if-not-all_same.false)
+          ∙ ap (λ (b : Bool). b && (same_as parts.item.now across.item.now && all_same_as parts.suffix.now across.suffix.now)) (sym c.all_same.ensures ∙ c.if-not-all_same.false)
           ∙ ap (λ (b : Bool). same_as parts.item.now across.item.now && b) (sym c.all_same-in-Some.ensures ∙ c.if-not-all_same-2.false)
           ∙ and_true (same_as parts.item.now across.item.now)),
-      omega (arith, weight-parts c.loop-parts.left.now parts.item.now parts.front.now parts.back.now items, c.loop-parts.invariant.1),
+      omega (arith, weight-parts c.loop-parts.left.now parts.item.now parts.prefix.now parts.suffix.now items, c.loop-parts.invariant.1),
     )

@@ -1,6 +1,6 @@
 use Rattle.std.proofs.Common.{◌≡◌, ◌+◌, ◌*◌, ◌≤◌, drop, length}
 use Rattle.vt_value.specs.Same.{same_as, all_same_as}
-use Rattle.vt_value.specs.Weights.{weight_of, weights_of}
+use Rattle.vt_value.specs.private.Weights.{weight_of, weights_of}
 use Rattle.vt_value.proofs.+same.Given as goal
 
 abbrev pub invariant-same::all_same-loop-i : goal.invariant-same::all_same-loop-i

@@ -1,6 +1,6 @@
 use Rattle.std.proofs.Common.{◌≡◌, ◌^◌, ◌-◌, ◌+◌, ◌*◌, ◌≤◌, min, drop}
 use Rattle.vt_value.specs.Sizes.{size_of, sizes_of}
-use Rattle.vt_value.specs.Weights.{weight_of, weights_of}
+use Rattle.vt_value.specs.private.Weights.{weight_of, weights_of}
 use Rattle.vt_value.proofs.+size.Given as goal
 
 abbrev pub invariant-size::sizes-loop-value : goal.invariant-size::sizes-loop-value

@@ -1,4 +1,4 @@
-use Rattle.vt_check.specs.Judged.{always_one}
+use Rattle.vt_check.proofs.Judging.{always_one}
 use Rattle.vt_check.proofs.laws.always_one.Goals as goal
 
 pub returns : goal.returns

@@ -1,8 +1,8 @@
-use Rattle.vt_check.proofs.JudgedLemmas.{allowed_where_allowed, refused_where_refused}
+use Rattle.vt_check.proofs.JudgedLemmas.{allowed_where, refused_where}
 use Rattle.vt_check.proofs.laws.verdict_law.Goals as goal
 
 pub returns-clause-allowed : goal.returns-clause-allowed
-returns-clause-allowed c = allowed_where_allowed
+returns-clause-allowed c = allowed_where
 
 pub returns-clause-refused : goal.returns-clause-refused
-returns-clause-refused c = refused_where_refused
+returns-clause-refused c = refused_where

@@ -1,6 +1,6 @@
 use Rattle.std.proofs.Common.{◌∙◌, ◌+◌, ap, sym, take}
 use Rattle.vt_cli.specs.Line.{words_of}
-use Rattle.vt_cli.specs.FirstPart.{word_and_more}
+use Rattle.vt_cli.specs.private.FirstPart.{word_and_more}
 use Rattle.vt_cli.proofs.FirstParts.{tail-whole, words-cut, words-last}
 use Rattle.vt_cli.proofs.line.cut_word.Goals as goal
 

@@ -1,6 +1,6 @@
 use Rattle.std.proofs.Common.{◌∙◌, ap, sym, subst}
 use Rattle.vt_cli.specs.Line.{words_of}
-use Rattle.vt_cli.specs.FirstPart.{BeginsWord}
+use Rattle.vt_cli.specs.private.FirstPart.{BeginsWord}
 use Rattle.vt_cli.proofs.FirstParts.{tail-whole, words-begin, words-none, words-skip}
 use Rattle.vt_cli.proofs.line.skip_blanks.Goals as goal
 

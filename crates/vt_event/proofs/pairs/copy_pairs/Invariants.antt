@@ -2,4 +2,4 @@ use Rattle.std.proofs.Common.{◌≡◌, take}
 use Rattle.vt_event.proofs.pairs.copy_pairs.Given as goal
 
 abbrev pub invariant-loop-pair : goal.invariant-loop-pair
-invariant-loop-pair l = l.copies.items ≡ take l.pair-index l.pairs
+invariant-loop-pair l = l.copies ≡ take l.pair-index l.pairs

@@ -1,7 +1,8 @@
 use Rattle.std.proofs.Common.{◌≡◌, length, ℕ, ◌+◌, ◌<◌, Bool, true, false, nat_eq, List, Bor, Some, cond, get_or, drop, sym, ap, ◌∙◌}
 use Rattle.std.specs.List.{starts_with}
 use Rattle.std.proofs.lemmas.List.{at_drop_more}
-use Rattle.vt_lex.specs.Words.{spelled, first_start}
+use Rattle.vt_lex.specs.Words.{first_start}
+use Rattle.vt_lex.specs.private.Spelled.{spelled}
 use Rattle.vt_lex.proofs.words.first_start.Goals as goal
 
 step : (forms : List (Bor (List ℕ))) (i : ℕ) (d : Bor (List ℕ)) (bytes : List ℕ) → i < length forms → first_start (spelled (drop i forms)) bytes ≡ cond (starts_with nat_eq bytes (get_or forms i d).now) (Some (length (get_or forms i d).now)) (first_start (spelled (drop (i + 1) forms)) bytes)

@@ -1,7 +1,8 @@
 use Rattle.std.proofs.Common.{◌≡◌, ℕ, ◌+◌, ◌<◌, length, Bool, true, false, List, ◌||◌, Bor, get_or, drop, ap, sym, ◌∙◌}
 use Rattle.std.specs.Str.{bytes_eq}
 use Rattle.std.proofs.lemmas.List.{at_drop_more}
-use Rattle.vt_lex.specs.Words.{is_among, spelled}
+use Rattle.vt_frac.specs.Names.{is_among}
+use Rattle.vt_lex.specs.private.Spelled.{spelled}
 use Rattle.vt_lex.proofs.words.is_among.Goals as goal
 
 -- what the answer is, by the test at index i

@@ -1,5 +1,6 @@
 use Rattle.std.proofs.Common.{◌≡◌, drop}
-use Rattle.vt_lex.specs.Words.{spelled, is_among}
+use Rattle.vt_frac.specs.Names.{is_among}
+use Rattle.vt_lex.specs.private.Spelled.{spelled}
 use Rattle.vt_lex.proofs.words.is_among.Given as goal
 
 abbrev pub invariant-loop-other : goal.invariant-loop-other

@@ -1,6 +1,6 @@
 use Rattle.std.proofs.Common.{ap, ◌∙◌}
+use Rattle.vt_frac.specs.Names.{is_among}
 use Rattle.vt_lex.specs.declared.words.TheConstants.{PLAIN_KEYWORDS, JOINING_KEYWORDS}
-use Rattle.vt_lex.specs.Words.{is_among}
 use Rattle.vt_lex.proofs.Lists.{among_first, among_later}
 use Rattle.vt_lex.proofs.Tables.{texts_of, keywords_are}
 use Rattle.vt_lex.proofs.words.is_keyword.Goals as goal

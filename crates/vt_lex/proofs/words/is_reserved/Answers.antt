@@ -1,5 +1,5 @@
 use Rattle.std.proofs.Common.{ap, ◌∙◌}
-use Rattle.vt_lex.specs.Words.{is_among}
+use Rattle.vt_frac.specs.Names.{is_among}
 use Rattle.vt_lex.proofs.Tables.{reserved_are}
 use Rattle.vt_lex.proofs.words.is_reserved.Goals as goal
 

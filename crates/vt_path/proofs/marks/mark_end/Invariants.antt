@@ -1,5 +1,5 @@
 use Rattle.std.proofs.Common.{◌≡◌, ℕ, ◌<◌, false}
-use Rattle.vt_path.specs.Marks.{mark}
+use Rattle.vt_path.specs.private.Marks.{mark}
 use Rattle.vt_path.proofs.marks.mark_end.Given as goal
 
 abbrev pub invariant-loop-i : goal.invariant-loop-i

@@ -1,5 +1,5 @@
 use Rattle.std.proofs.Common.{◌≡◌, ℕ, ◌<◌, ◌≤◌, ◌↔◌, true}
-use Rattle.vt_path.specs.Marks.{mark, SomeName}
+use Rattle.vt_path.specs.private.Marks.{mark, SomeName}
 use Rattle.vt_path.proofs.part_match.mark_names.Given as goal
 
 abbrev pub invariant-loop-i : goal.invariant-loop-i

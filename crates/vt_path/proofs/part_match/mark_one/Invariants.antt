@@ -1,5 +1,5 @@
 use Rattle.std.proofs.Common.{◌≡◌, ℕ, ◌+◌, ◌<◌, ◌≤◌, ◌↔◌, true, get_or}
-use Rattle.vt_path.specs.Marks.{mark, TakesByte}
+use Rattle.vt_path.specs.private.Marks.{mark, TakesByte}
 use Rattle.vt_path.proofs.part_match.mark_one.Given as goal
 
 abbrev pub invariant-loop-i : goal.invariant-loop-i

@@ -1,6 +1,6 @@
 use Rattle.std.proofs.Common.{◌≡◌, ℕ, ◌+◌, ◌<◌, ◌≤◌, List, ◌∷◌, length, drop, get_or, ◌∙◌, ap, subst, ◌↔◌, Bool, true, false}
 use Rattle.vt_path.specs.Match.{MatchesBytes}
-use Rattle.vt_path.specs.Marks.{mark, IsMarked, TakesOne, TakesByte, SomeName}
+use Rattle.vt_path.specs.private.Marks.{mark, IsMarked, TakesOne, TakesByte, SomeName}
 use Rattle.vt_path.specs.declared.pattern.Part.{Part}
 use Rattle.vt_path.specs.declared.pattern.Part.TheVariants.{Byte, AnyBytes, AnyByte, Set, Alternatives}
 use Rattle.vt_path.proofs.MarkLemmas.{marks_skip, marks_one, marks_names, first_of, marked_along}

@@ -1,6 +1,6 @@
 use Rattle.std.proofs.Common.{◌≡◌, ◌+◌, length, refl, true, false, sym, ◌∙◌, ap}
-use Rattle.vt_path.specs.Marks.{mark}
-use Rattle.vt_path.proofs.MarkLemmas.{front_is, name_found, names_more, no_name}
+use Rattle.vt_path.specs.private.Marks.{mark}
+use Rattle.vt_path.proofs.MarkLemmas.{prefix_is, name_found, names_more, no_name}
 use Rattle.vt_path.proofs.part_match.some_name.Goals as goal
 use Rattle.vt_path.proofs.part_match.some_name.Goals.{else-starts_with-via-then-starts_with+else-marks-i, else-starts_with-via-else-starts_with}
 
@@ -15,7 +15,7 @@ pub loop-name-preserved : goal.loop-name-preserved
 loop-name-preserved c =
     names_more c.args.names.now c.args.bytes.now c.args.marks.now c.args.i c.loop-name.name-index c.name-item.result c.loop-name-test.true c.name-item.is c.loop-name.invariant
     (λ rest e m.
-    let found = (front_is c.args.bytes.now c.args.i c.name-item.result c.as_bytes.result.now c.starts_with.result c.as_bytes.ensures c.starts_with.ensures.value).1 rest e in
+    let found = (prefix_is c.args.bytes.now c.args.i c.name-item.result c.as_bytes.result.now c.starts_with.result c.as_bytes.ensures c.starts_with.ensures.value).1 rest e in
     elim c.else-starts_with.branch [
       | else-starts_with-via-then-starts_with+else-marks-i w ↦
           (let off = w.if-marks-i.false in let z : true ≡ false = sym m ∙ (ap (λ n. mark c.args.marks.now (c.args.i + n)) (sym (ap length w.as_bytes-then-starts_with.ensures)) ∙ off) in cc)

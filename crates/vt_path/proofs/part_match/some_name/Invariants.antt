@@ -1,5 +1,5 @@
 use Rattle.std.proofs.Common.{◌≡◌, ℕ, ◌+◌, ◌<◌, List, [], ◌++◌, length, drop, get_or, true}
-use Rattle.vt_path.specs.Marks.{mark}
+use Rattle.vt_path.specs.private.Marks.{mark}
 use Rattle.vt_path.proofs.part_match.some_name.Given as goal
 
 abbrev pub invariant-loop-name : goal.invariant-loop-name

@@ -1,5 +1,5 @@
 use Rattle.std.proofs.Common.{◌≡◌, ℕ, ◌+◌, ◌<◌, ◌≤◌, ◌↔◌, [], true, get_or}
-use Rattle.vt_path.specs.Marks.{mark}
+use Rattle.vt_path.specs.private.Marks.{mark}
 use Rattle.vt_path.specs.Match.{MatchesBytes}
 use Rattle.vt_path.proofs.path_match.mark_parts.Given as goal
 

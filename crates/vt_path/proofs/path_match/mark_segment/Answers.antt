@@ -1,6 +1,6 @@
 use Rattle.std.proofs.Common.{◌≡◌, ℕ, ◌+◌, ◌<◌, List, [], ◌∷◌, length, drop, get_or, ◌∙◌, ap, subst, ◌↔◌, true}
 use Rattle.vt_path.specs.Match.{MatchesSegments, MatchesBytes}
-use Rattle.vt_path.specs.Marks.{mark}
+use Rattle.vt_path.specs.private.Marks.{mark}
 use Rattle.vt_path.specs.declared.pattern.Segment.{Segment}
 use Rattle.vt_path.specs.declared.pattern.Segment.TheVariants.{AnySegments, Parts}
 use Rattle.vt_path.specs.declared.pattern.Part.{Part}

@@ -1,5 +1,5 @@
 use Rattle.std.proofs.Common.{◌≤◌, length, drop}
-use Rattle.vt_path.specs.Marks.{IsMarked}
+use Rattle.vt_path.specs.private.Marks.{IsMarked}
 use Rattle.vt_path.specs.Match.{MatchesSegments}
 use Rattle.vt_path.proofs.path_match.segments_match.Given as goal
 

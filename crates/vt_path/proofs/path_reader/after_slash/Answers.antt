@@ -1,7 +1,7 @@
 use Rattle.std.proofs.Common.{ℕ, ◌+◌, ◌≤◌, List, ◌∷◌, length, arith, take}
 use Rattle.vt_path.specs.Path.{IsPath, path_text}
-use Rattle.vt_path.specs.PathReading.{Leads, IsSound}
-use Rattle.vt_path.proofs.Fronts.{Reads, Reads-next, stops_at_next, stops_after_all, text_after_all, place_bound}
+use Rattle.vt_path.specs.private.PathReading.{Leads, IsSound}
+use Rattle.vt_path.proofs.Prefixes.{Reads, Reads-next, stops_at_next, stops_after_all, text_after_all, place_bound}
 use Rattle.vt_path.proofs.PathSteps.{path_opens, length-path_text, takes_yes, takes_no, ends_yes, ends_no}
 use Rattle.vt_path.proofs.path_reader.after_slash.Goals as goal
 

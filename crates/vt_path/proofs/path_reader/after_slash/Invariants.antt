@@ -1,7 +1,7 @@
 use Rattle.std.proofs.Common.{◌∷◌, take}
 use Rattle.vt_path.specs.Path.{IsPath, path_text}
-use Rattle.vt_path.specs.PathReading.{IsSound, Leads}
-use Rattle.vt_path.proofs.Fronts.{Reads}
+use Rattle.vt_path.specs.private.PathReading.{IsSound, Leads}
+use Rattle.vt_path.proofs.Prefixes.{Reads}
 use Rattle.vt_path.proofs.path_reader.after_slash.Given as goal
 
 abbrev pub invariant-loop-i : goal.invariant-loop-i

@@ -1,7 +1,7 @@
 use Rattle.std.proofs.Common.{◌≡◌, [], length, get_or, arith, ap}
 use Rattle.vt_path.specs.Path.{IsPath, path_text}
-use Rattle.vt_path.specs.PathReading.{Leads}
-use Rattle.vt_path.proofs.Fronts.{stops_at_start}
+use Rattle.vt_path.specs.private.PathReading.{Leads}
+use Rattle.vt_path.proofs.Prefixes.{stops_at_start}
 use Rattle.vt_path.proofs.PathSteps.{path_opens, path_begins, path_slash, sound_begin}
 use Rattle.vt_path.proofs.path_reader.parse_path.Goals as goal
 

@@ -1,7 +1,7 @@
 use Rattle.std.proofs.Common.{ℕ, ◌+◌, ◌≤◌, List, ◌∷◌, length, arith, take}
 use Rattle.vt_path.specs.Pattern.{IsPattern, pattern_text}
-use Rattle.vt_path.specs.PatternReading.{Reading, Leads, IsSound, reading}
-use Rattle.vt_path.proofs.Fronts.{Reads, Reads-next, stops_at_next, stops_after_all, text_after_all, place_bound}
+use Rattle.vt_path.specs.private.PatternReading.{Reading, Leads, IsSound, reading}
+use Rattle.vt_path.proofs.Prefixes.{Reads, Reads-next, stops_at_next, stops_after_all, text_after_all, place_bound}
 use Rattle.vt_path.proofs.PatternEnds.{pattern_opens, pattern_begins, length-pattern_text, takes_yes, takes_no, ends_yes, ends_no}
 use Rattle.vt_path.proofs.pattern_reader.after_slash.Goals as goal
 

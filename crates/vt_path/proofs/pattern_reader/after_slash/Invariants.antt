@@ -1,7 +1,7 @@
 use Rattle.std.proofs.Common.{◌∷◌, take}
 use Rattle.vt_path.specs.Pattern.{IsPattern, pattern_text}
-use Rattle.vt_path.specs.PatternReading.{IsSound, Leads, reading}
-use Rattle.vt_path.proofs.Fronts.{Reads}
+use Rattle.vt_path.specs.private.PatternReading.{IsSound, Leads, reading}
+use Rattle.vt_path.proofs.Prefixes.{Reads}
 use Rattle.vt_path.proofs.pattern_reader.after_slash.Given as goal
 
 abbrev pub invariant-loop-i : goal.invariant-loop-i

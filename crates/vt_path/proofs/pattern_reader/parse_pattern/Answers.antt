@@ -1,7 +1,7 @@
 use Rattle.std.proofs.Common.{◌≡◌, length, get_or, arith, ap}
 use Rattle.vt_path.specs.Pattern.{IsPattern, pattern_text}
-use Rattle.vt_path.specs.PatternReading.{Leads}
-use Rattle.vt_path.proofs.Fronts.{stops_at_start}
+use Rattle.vt_path.specs.private.PatternReading.{Leads}
+use Rattle.vt_path.proofs.Prefixes.{stops_at_start}
 use Rattle.vt_path.proofs.PatternEnds.{pattern_opens, pattern_slash, begin, sound_begin, begins}
 use Rattle.vt_path.proofs.pattern_reader.parse_pattern.Goals as goal
 

@@ -1,6 +1,6 @@
 use Rattle.std.proofs.Common.{◌≡◌, length}
-use Rattle.vt_prim.specs.Climbing.{climbed}
-use Rattle.vt_prim.specs.Numbers.{value_of}
+use Rattle.vt_prim.specs.private.Climbing.{climbed}
+use Rattle.vt_prim.specs.private.Adding.{value_of}
 use Rattle.vt_prim.proofs.climbing.climbed.Given as goal
 
 abbrev pub invariant-loop-step : goal.invariant-loop-step

@@ -1,6 +1,6 @@
 use Rattle.std.proofs.Common.{◌≡◌, ◌∙◌, sym, rules, arith}
 use Rattle.vt_prim.proofs.ClimbLemmas.{round_ok, round_err}
-use Rattle.vt_prim.specs.Numbers.{answer_of, value_of}
+use Rattle.vt_prim.specs.private.Adding.{answer_of, value_of}
 use Rattle.vt_prim.proofs.climbing.climbed_times.Goals as goal
 
 pub returns-in_err-top : goal.returns-in_err-top

@@ -1,7 +1,7 @@
 use Rattle.std.proofs.Common.{◌≡◌}
 use Rattle.vt_ring.specs.NoteCalls.{times}
-use Rattle.vt_prim.specs.Climbing.{climbed}
-use Rattle.vt_prim.specs.Numbers.{value_of}
+use Rattle.vt_prim.specs.private.Climbing.{climbed}
+use Rattle.vt_prim.specs.private.Adding.{value_of}
 use Rattle.vt_prim.proofs.climbing.climbed_times.Given as goal
 
 abbrev pub invariant-loop-left : goal.invariant-loop-left

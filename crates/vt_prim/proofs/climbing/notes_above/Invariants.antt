@@ -1,7 +1,7 @@
 use Rattle.std.proofs.Common.{◌≡◌, length}
 use Rattle.vt_ring.specs.NoteCalls.{intervals_above}
-use Rattle.vt_prim.specs.Climbing.{behind}
-use Rattle.vt_prim.specs.Numbers.{value_of}
+use Rattle.vt_prim.specs.private.Climbing.{behind}
+use Rattle.vt_prim.specs.private.Adding.{value_of}
 use Rattle.vt_prim.proofs.climbing.notes_above.Given as goal
 
 abbrev pub invariant-loop-interval : goal.invariant-loop-interval

@@ -2,9 +2,9 @@ use Rattle.std.proofs.Common.{◌≡◌, ◌∙◌, Err, Result, List, sym, ap, 
 use Rattle.vt_value.specs.Answers.{Gives}
 use Rattle.vt_value.specs.declared.fault.ValueFault.TheVariants.{Fault}
 use Rattle.vt_value.specs.declared.value.Value.{Value}
-use Rattle.vt_prim.specs.Climbing.{behind}
+use Rattle.vt_prim.specs.private.Climbing.{behind}
 use Rattle.vt_ring.specs.NoteCalls.{steps_up, times}
-use Rattle.vt_prim.specs.Numbers.{value_of}
+use Rattle.vt_prim.specs.private.Adding.{value_of}
 use Rattle.vt_prim.proofs.ClimbLemmas.{behind-none, gives_err, way-err, way-ok}
 use Rattle.vt_prim.proofs.climbing.notes_up.Goals as goal
 

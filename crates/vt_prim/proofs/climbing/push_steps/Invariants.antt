@@ -1,7 +1,7 @@
 use Rattle.std.proofs.Common.{◌≡◌, ℕ, List, ◌++◌, length}
 use Rattle.vt_ring.specs.NoteCalls.{steps_up}
-use Rattle.vt_prim.specs.Climbing.{behind}
-use Rattle.vt_prim.specs.Numbers.{value_of}
+use Rattle.vt_prim.specs.private.Climbing.{behind}
+use Rattle.vt_prim.specs.private.Adding.{value_of}
 use Rattle.vt_prim.proofs.climbing.push_steps.Given as goal
 
 abbrev pub invariant-loop-step : goal.invariant-loop-step

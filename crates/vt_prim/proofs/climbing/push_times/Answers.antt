@@ -2,8 +2,8 @@ use Rattle.std.proofs.Common.{◌≡◌, Err, rules, arith}
 use Rattle.vt_value.specs.declared.fault.FaultKind.{FaultKind}
 use Rattle.vt_value.specs.declared.fault.ValueFault.TheVariants.{Fault}
 use Rattle.vt_ring.specs.NoteCalls.{steps_up, times}
-use Rattle.vt_prim.specs.Climbing.{behind}
-use Rattle.vt_prim.specs.Numbers.{value_of}
+use Rattle.vt_prim.specs.private.Climbing.{behind}
+use Rattle.vt_prim.specs.private.Adding.{value_of}
 use Rattle.vt_prim.proofs.ClimbLemmas.{times_err}
 use Rattle.vt_prim.proofs.climbing.push_times.Goals as goal
 

@@ -1,6 +1,6 @@
 use Rattle.std.proofs.Common.{◌≡◌, length}
 use Rattle.vt_ring.specs.CountCalls.{added_up}
-use Rattle.vt_prim.specs.Numbers.{value_of}
+use Rattle.vt_prim.specs.private.Adding.{value_of}
 use Rattle.vt_prim.proofs.counting.added_up.Given as goal
 
 abbrev pub invariant-loop-first : goal.invariant-loop-first

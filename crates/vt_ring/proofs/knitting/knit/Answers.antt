@@ -1,5 +1,5 @@
 use Rattle.vt_ring.specs.Building.{knit_of}
-use Rattle.vt_ring.specs.Knitting.{knitted}
+use Rattle.vt_ring.specs.private.Knitting.{knitted}
 use Rattle.vt_ring.specs.Limits.{within_limits}
 use Rattle.vt_ring.proofs.AnswerLemmas.{gives_same}
 use Rattle.vt_ring.proofs.KnitLemmas.{knit_good}

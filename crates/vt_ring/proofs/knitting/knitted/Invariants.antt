@@ -1,5 +1,5 @@
 use Rattle.std.proofs.Common.{◌≡◌, ◌++◌, length}
-use Rattle.vt_ring.specs.Knitting.{knitted}
+use Rattle.vt_ring.specs.private.Knitting.{knitted}
 use Rattle.vt_ring.proofs.knitting.knitted.Given as goal
 
 abbrev pub invariant-loop-left : goal.invariant-loop-left

@@ -1,6 +1,6 @@
 use Rattle.std.proofs.Common.{ap, ◌∙◌, sym, arith}
 use Rattle.vt_ring.specs.Building.{range_counted}
-use Rattle.vt_ring.specs.Series.{range_series, series_values}
+use Rattle.vt_ring.specs.private.Series.{range_series, series_values}
 use Rattle.vt_ring.proofs.AnswerLemmas.{gives_same}
 use Rattle.vt_ring.proofs.SeriesLemmas.{range_values}
 use Rattle.vt_ring.proofs.ranges.range_counted.Goals as goal

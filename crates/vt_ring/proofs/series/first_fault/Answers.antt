@@ -1,6 +1,6 @@
 use Rattle.std.proofs.Common.{sym}
 use Rattle.std.proofs.lemmas.Result.{err_from_is_err_and}
-use Rattle.vt_ring.specs.Series.{series_number}
+use Rattle.vt_ring.specs.private.Series.{series_number}
 use Rattle.vt_ring.proofs.SeriesLemmas.{index_good, index_fault}
 use Rattle.vt_ring.proofs.series.first_fault.Goals as goal
 

@@ -2,7 +2,7 @@ use Rattle.std.proofs.Common.{◌++◌, ◌∷◌, [], map, Ok, sym, ap, ◌∙�
 use Rattle.std.proofs.lemmas.Result.{err_from_is_err_and}
 use Rattle.vt_ring.specs.Answers.{and_then}
 use Rattle.vt_ring.specs.Building.{number_value}
-use Rattle.vt_ring.specs.Series.{series_number, series_numbers}
+use Rattle.vt_ring.specs.private.Series.{series_number, series_numbers}
 use Rattle.vt_ring.proofs.AnswerLemmas.{mapped_good}
 use Rattle.vt_ring.proofs.SeriesLemmas.{index_mapped, index_fault}
 use Rattle.vt_ring.proofs.series.good_values.Goals as goal

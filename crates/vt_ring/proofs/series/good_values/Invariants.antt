@@ -1,5 +1,5 @@
 use Rattle.std.proofs.Common.{◌≡◌, Ok}
-use Rattle.vt_ring.specs.Series.{series_values}
+use Rattle.vt_ring.specs.private.Series.{series_values}
 use Rattle.vt_ring.proofs.series.good_values.Given as goal
 
 abbrev pub invariant-loop-i : goal.invariant-loop-i

@@ -1,6 +1,6 @@
 use Rattle.std.proofs.Common.{length, arith}
 use Rattle.vt_value.specs.Sizes.{sizes_of}
-use Rattle.vt_ring.specs.Knitting.{knitted}
+use Rattle.vt_ring.specs.private.Knitting.{knitted}
 use Rattle.vt_ring.proofs.LimitLemmas.{capped, knit_count, knit_size}
 use Rattle.vt_ring.proofs.within.is_knit_within.Goals as goal
 

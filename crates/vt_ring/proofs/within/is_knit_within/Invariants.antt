@@ -1,6 +1,6 @@
 use Rattle.std.proofs.Common.{◌≡◌, ◌+◌, length}
 use Rattle.vt_value.specs.Sizes.{sizes_of}
-use Rattle.vt_ring.specs.Knitting.{knitted}
+use Rattle.vt_ring.specs.private.Knitting.{knitted}
 use Rattle.vt_ring.proofs.LimitLemmas.{capped}
 use Rattle.vt_ring.proofs.within.is_knit_within.Given as goal
 

@@ -7,13 +7,13 @@ use Rattle.vt_ring.proofs.within.is_within.Goals as goal
 
 pub returns : goal.returns
 returns c =
-    let front = c.args.front.now in
-    let back = c.args.back.now in
-    let count : c.saturating_add-count.result ≡ capped (length front + length back) = omega (arith, c.saturating_add-count.ensures) in
-    let size : c.saturating_add-size.result ≡ capped (sizes_of front + sizes_of back) = omega (arith, c.saturating_add-size.ensures, c.sizes.ensures, c.sizes-2.ensures) in
+    let prefix = c.args.prefix.now in
+    let rest = c.args.rest.now in
+    let count : c.saturating_add-count.result ≡ capped (length prefix + length rest) = omega (arith, c.saturating_add-count.ensures) in
+    let size : c.saturating_add-size.result ≡ capped (sizes_of prefix + sizes_of rest) = omega (arith, c.saturating_add-size.ensures, c.sizes.ensures, c.sizes-2.ensures) in
     c.are_few.ensures
     ∙ ap (λ n. nat_le n 4096 && nat_le (1 + c.saturating_add-size.result) 65536) count
-    ∙ ap (λ n. nat_le (capped (length front + length back)) 4096 && nat_le (1 + n) 65536) size
-    ∙ ap (λ b. b && nat_le (1 + capped (sizes_of front + sizes_of back)) 65536) (few_capped (length front + length back))
-    ∙ ap (λ b. nat_le (length front + length back) 4096 && b) (small_capped (sizes_of front + sizes_of back))
-    ∙ within_by (front ++ back) (length front + length back) (sizes_of front + sizes_of back) (length-append front back) (sizes-append front back)
+    ∙ ap (λ n. nat_le (capped (length prefix + length rest)) 4096 && nat_le (1 + n) 65536) size
+    ∙ ap (λ b. b && nat_le (1 + capped (sizes_of prefix + sizes_of rest)) 65536) (few_capped (length prefix + length rest))
+    ∙ ap (λ b. nat_le (length prefix + length rest) 4096 && b) (small_capped (sizes_of prefix + sizes_of rest))
+    ∙ within_by (prefix ++ rest) (length prefix + length rest) (sizes_of prefix + sizes_of rest) (length-append prefix rest) (sizes-append prefix rest)

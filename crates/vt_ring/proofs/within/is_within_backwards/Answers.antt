@@ -7,8 +7,8 @@ use Rattle.vt_ring.proofs.within.is_within_backwards.Goals as goal
 
 pub returns : goal.returns
 returns c =
-    let front = c.args.front.now in
-    let back = c.args.back.now in
-    c.is_within.ensures ∙ within_same (front ++ back) (front ++ reverse back)
-    (length-append front back ∙ sym (length-append front (reverse back) ∙ ap (λ n. length front + n) (length-reverse back)))
-    (sizes-append front back ∙ sym (sizes-append front (reverse back) ∙ ap (λ n. sizes_of front + n) (sizes-reverse back)))
+    let prefix = c.args.prefix.now in
+    let rest = c.args.rest.now in
+    c.is_within.ensures ∙ within_same (prefix ++ rest) (prefix ++ reverse rest)
+    (length-append prefix rest ∙ sym (length-append prefix (reverse rest) ∙ ap (λ n. length prefix + n) (length-reverse rest)))
+    (sizes-append prefix rest ∙ sym (sizes-append prefix (reverse rest) ∙ ap (λ n. sizes_of prefix + n) (sizes-reverse rest)))

@@ -1,4 +1,4 @@
-use Rattle.vt_run.proofs.StepNumbers.{numbers_law}
+use Rattle.vt_run.proofs.steps.StepNumbers.{numbers_law}
 use Rattle.vt_run.proofs.laws.actions_are_numbered.Goals as goal
 
 pub returns : goal.returns

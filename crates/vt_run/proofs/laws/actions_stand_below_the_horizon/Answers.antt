@@ -1,4 +1,4 @@
-use Rattle.vt_run.proofs.RisingPlaces.{horizon_law}
+use Rattle.vt_run.proofs.steps.RisingPlaces.{horizon_law}
 use Rattle.vt_run.proofs.laws.actions_stand_below_the_horizon.Goals as goal
 
 pub returns : goal.returns

@@ -1,4 +1,4 @@
-use Rattle.vt_run.proofs.ThreadSteps.{places_law}
+use Rattle.vt_run.proofs.steps.ThreadSteps.{places_law}
 use Rattle.vt_run.proofs.laws.actions_stand_in_place.Goals as goal
 
 pub returns : goal.returns

@@ -1,4 +1,4 @@
-use Rattle.vt_run.proofs.FurtherAnswers.{answers_law}
+use Rattle.vt_run.proofs.steps.FurtherAnswers.{answers_law}
 use Rattle.vt_run.proofs.laws.answers_only_extend.Goals as goal
 
 pub returns : goal.returns

@@ -1,4 +1,4 @@
-use Rattle.vt_run.proofs.ThreadSteps.{children_law}
+use Rattle.vt_run.proofs.steps.ThreadSteps.{children_law}
 use Rattle.vt_run.proofs.laws.children_are_numbered.Goals as goal
 
 pub returns : goal.returns

@@ -1,4 +1,4 @@
-use Rattle.vt_run.proofs.ThreadSteps.{blocks_law}
+use Rattle.vt_run.proofs.steps.ThreadSteps.{blocks_law}
 use Rattle.vt_run.proofs.laws.children_run_blocks.Goals as goal
 
 pub returns : goal.returns

@@ -1,4 +1,4 @@
-use Rattle.vt_run.proofs.ThreadSteps.{last_law}
+use Rattle.vt_run.proofs.steps.ThreadSteps.{last_law}
 use Rattle.vt_run.proofs.laws.last_steps_are_last.Goals as goal
 
 pub returns : goal.returns

@@ -1,4 +1,4 @@
-use Rattle.vt_run.proofs.Noted.{piece_noted}
+use Rattle.vt_run.proofs.notes.Noted.{piece_noted}
 use Rattle.vt_run.proofs.laws.noted_steps_are_a_piece.Goals as goal
 
 pub returns : goal.returns

@@ -1,7 +1,7 @@
 use Rattle.std.proofs.Common.{◌≡◌, Ok, ap, ◌∙◌}
 use Rattle.vt_frac.specs.Arithmetic.{sum_of}
 use Rattle.vt_run.specs.Actions.{is_past}
-use Rattle.vt_run.proofs.Fitting.{fitted_where_fits}
+use Rattle.vt_run.proofs.facts.Fitting.{fitted_where_fits}
 use Rattle.vt_run.proofs.recorder.reaches.Goals as goal
 
 pub unreachable-requires : goal.unreachable-requires

@@ -18,6 +18,6 @@ pub returns-else-divisor-lt0 : goal.returns-else-divisor-lt0
 returns-else-divisor-lt0 c =
     let m : to_z w64 (of_z w64 c.get-dividend.result) ≡ c.args.m = omega (arith, ints, c.get-dividend.ensures.value) in
     let n : to_z w64 (of_z w64 c.get-divisor.result) ≡ c.args.n = omega (arith, ints, c.get-divisor.ensures.value) in
-    let back : to_z w64 (of_z w64 c.rem_euclid-else-divisor-lt0.result) ≡ c.rem_euclid-else-divisor-lt0.result = omega (arith, ints) in
+    let suffix : to_z w64 (of_z w64 c.rem_euclid-else-divisor-lt0.result) ≡ c.rem_euclid-else-divisor-lt0.result = omega (arith, ints) in
     let above : pos 0 <ℤ c.args.n = omega (arith, ints, c.get-divisor.ensures.value, c.requires) in
-    back ∙ c.rem_euclid-else-divisor-lt0.ensures.value ∙ ap (λ (z : ℤ). int_rem_euclid z (to_z w64 (of_z w64 c.get-divisor.result))) m ∙ ap (int_rem_euclid c.args.m) n ∙ rem_above c.args.m c.args.n above
+    suffix ∙ c.rem_euclid-else-divisor-lt0.ensures.value ∙ ap (λ (z : ℤ). int_rem_euclid z (to_z w64 (of_z w64 c.get-divisor.result))) m ∙ ap (int_rem_euclid c.args.m) n ∙ rem_above c.args.m c.args.n above

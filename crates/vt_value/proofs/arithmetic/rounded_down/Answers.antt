@@ -9,14 +9,14 @@ pub returns-then-divisor-lt0 : goal.returns-then-divisor-lt0
 returns-then-divisor-lt0 c =
     let m : to_z w64 (of_z w64 (pos 0 -ℤ to_z w64 (of_z w64 c.get-dividend.result))) ≡ neg_ℤ c.args.m = omega (arith, ints, c.get-dividend.ensures.value) in
     let n : to_z w64 (of_z w64 (pos 0 -ℤ to_z w64 (of_z w64 c.get-divisor.result))) ≡ neg_ℤ c.args.n = omega (arith, ints, c.get-divisor.ensures.value) in
-    let back : to_z w64 (of_z w64 c.div_euclid.result) ≡ c.div_euclid.result = omega (arith, ints) in
+    let suffix : to_z w64 (of_z w64 c.div_euclid.result) ≡ c.div_euclid.result = omega (arith, ints) in
     let below : c.args.n <ℤ pos 0 = omega (arith, ints, c.get-divisor.ensures.value) in
-    back ∙ c.div_euclid.ensures ∙ ap (λ (z : ℤ). int_div_euclid z (to_z w64 (of_z w64 (pos 0 -ℤ to_z w64 (of_z w64 c.get-divisor.result))))) m ∙ ap (int_div_euclid (neg_ℤ c.args.m)) n ∙ floor_below c.args.m c.args.n below
+    suffix ∙ c.div_euclid.ensures ∙ ap (λ (z : ℤ). int_div_euclid z (to_z w64 (of_z w64 (pos 0 -ℤ to_z w64 (of_z w64 c.get-divisor.result))))) m ∙ ap (int_div_euclid (neg_ℤ c.args.m)) n ∙ floor_below c.args.m c.args.n below
 
 pub returns-else-divisor-lt0 : goal.returns-else-divisor-lt0
 returns-else-divisor-lt0 c =
     let m : to_z w64 (of_z w64 c.get-dividend.result) ≡ c.args.m = omega (arith, ints, c.get-dividend.ensures.value) in
     let n : to_z w64 (of_z w64 c.get-divisor.result) ≡ c.args.n = omega (arith, ints, c.get-divisor.ensures.value) in
-    let back : to_z w64 (of_z w64 c.div_euclid-else-divisor-lt0.result) ≡ c.div_euclid-else-divisor-lt0.result = omega (arith, ints) in
+    let suffix : to_z w64 (of_z w64 c.div_euclid-else-divisor-lt0.result) ≡ c.div_euclid-else-divisor-lt0.result = omega (arith, ints) in
     let above : pos 0 <ℤ c.args.n = omega (arith, ints, c.get-divisor.ensures.value, c.requires) in
-    back ∙ c.div_euclid-else-divisor-lt0.ensures ∙ ap (λ (z : ℤ). int_div_euclid z (to_z w64 (of_z w64 c.get-divisor.result))) m ∙ ap (int_div_euclid c.args.m) n ∙ floor_above c.args.m c.args.n above
+    suffix ∙ c.div_euclid-else-divisor-lt0.ensures ∙ ap (λ (z : ℤ). int_div_euclid z (to_z w64 (of_z w64 c.get-divisor.result))) m ∙ ap (int_div_euclid c.args.m) n ∙ floor_above c.args.m c.args.n above

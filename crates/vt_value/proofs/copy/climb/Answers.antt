@@ -1,8 +1,8 @@
 use Rattle.std.proofs.Common.{◌≡◌, ◌∙◌, sym, ap, arith, List, []}
 use Rattle.std.proofs.lemmas.List.{nil_from_length}
 use Rattle.vt_value.specs.declared.copy.OpenRing.{OpenRing}
-use Rattle.vt_value.specs.Walks.{assembled, open_weight}
-use Rattle.vt_value.specs.Weights.{weights_of}
+use Rattle.vt_value.specs.private.Walks.{assembled, open_weight}
+use Rattle.vt_value.specs.private.Weights.{weights_of}
 use Rattle.vt_value.proofs.WalkLemmas.{closing, going_on, open_weight-append}
 use Rattle.vt_value.proofs.copy.climb.Goals as goal
 

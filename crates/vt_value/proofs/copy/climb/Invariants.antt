@@ -1,5 +1,5 @@
 use Rattle.std.proofs.Common.{◌≡◌, ◌≤◌, vec_len}
-use Rattle.vt_value.specs.Walks.{assembled, open_weight}
+use Rattle.vt_value.specs.private.Walks.{assembled, open_weight}
 use Rattle.vt_value.proofs.copy.climb.Given as goal
 
 abbrev pub invariant-loop-ring : goal.invariant-loop-ring

@@ -1,7 +1,7 @@
 use Rattle.std.proofs.Common.{◌∙◌, refl, sym, ap, arith, List}
 use Rattle.vt_value.specs.declared.copy.OpenRing.{OpenRing}
-use Rattle.vt_value.specs.Walks.{assembled, open_weight}
-use Rattle.vt_value.specs.Weights.{weights_of}
+use Rattle.vt_value.specs.private.Walks.{assembled, open_weight}
+use Rattle.vt_value.specs.private.Weights.{weights_of}
 use Rattle.vt_value.proofs.Layers.{weight-items}
 use Rattle.vt_value.proofs.WalkLemmas.{opening, open_weight-append}
 use Rattle.vt_value.proofs.copy.copy_first.Goals as goal

@@ -1,6 +1,6 @@
 use Rattle.std.proofs.Common.{◌≡◌, ◌≤◌, ◌+◌}
-use Rattle.vt_value.specs.Walks.{assembled, open_weight}
-use Rattle.vt_value.specs.Weights.{weight_of}
+use Rattle.vt_value.specs.private.Walks.{assembled, open_weight}
+use Rattle.vt_value.specs.private.Weights.{weight_of}
 use Rattle.vt_value.proofs.copy.copy_first.Given as goal
 
 abbrev pub invariant-loop-first : goal.invariant-loop-first

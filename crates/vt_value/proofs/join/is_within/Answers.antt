@@ -13,8 +13,8 @@ capped sum a b h = grind (arith, nat_tests)
 
 pub returns : goal.returns
 returns c =
-    let front = c.args.front.now in
-    let back = c.args.back.now in
-    let few : nat_le (length (front ++ back)) 4096 ≡ true = at_most (length (front ++ back)) (omega (arith, length-append front back)) in
-    let sum : c.saturating_add.result ≡ min (min (2 ^ 64 - 1) (sizes_of front) + min (2 ^ 64 - 1) (sizes_of back)) (2 ^ 64 - 1) = omega (arith, c.saturating_add.ensures, c.sizes.ensures, c.sizes-2.ensures) in
-    capped c.saturating_add.result (sizes_of front) (sizes_of back) sum ∙ sym (ap (λ (b : Bool). b && nat_le (1 + sizes_of (front ++ back)) 65536) few ∙ ap (λ (n : ℕ). nat_le (1 + n) 65536) (sizes-append front back))
+    let first = c.args.first.now in
+    let second = c.args.second.now in
+    let few : nat_le (length (first ++ second)) 4096 ≡ true = at_most (length (first ++ second)) (omega (arith, length-append first second)) in
+    let sum : c.saturating_add.result ≡ min (min (2 ^ 64 - 1) (sizes_of first) + min (2 ^ 64 - 1) (sizes_of second)) (2 ^ 64 - 1) = omega (arith, c.saturating_add.ensures, c.sizes.ensures, c.sizes-2.ensures) in
+    capped c.saturating_add.result (sizes_of first) (sizes_of second) sum ∙ sym (ap (λ (b : Bool). b && nat_le (1 + sizes_of (first ++ second)) 65536) few ∙ ap (λ (n : ℕ). nat_le (1 + n) 65536) (sizes-append first second))

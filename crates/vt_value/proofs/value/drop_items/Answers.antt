@@ -1,5 +1,5 @@
 use Rattle.std.proofs.Common.{arith, ap}
-use Rattle.vt_value.specs.Weights.{weights_of}
+use Rattle.vt_value.specs.private.Weights.{weights_of}
 use Rattle.vt_value.proofs.Layers.{weights-append}
 use Rattle.vt_value.proofs.value.drop_items.Goals as goal
 

@@ -1,5 +1,5 @@
 use Rattle.std.proofs.Common.{◌≤◌, ◌+◌}
-use Rattle.vt_value.specs.Weights.{weight_of, weights_of}
+use Rattle.vt_value.specs.private.Weights.{weight_of, weights_of}
 use Rattle.vt_value.proofs.value.drop_one.Given as goal
 
 abbrev pub invariant-loop-ring : goal.invariant-loop-ring

@@ -1,5 +1,5 @@
 use Rattle.std.proofs.Common.{arith, ap, ◌∷◌, [], ◌<◌, length}
-use Rattle.vt_value.specs.Weights.{weight_of, weights_of}
+use Rattle.vt_value.specs.private.Weights.{weight_of, weights_of}
 use Rattle.vt_value.proofs.Layers.{weight-Ring, weights-append, weights-first}
 use Rattle.vt_value.proofs.value.exchange.Goals as goal
 

@@ -1,7 +1,7 @@
 use Rattle.std.proofs.Common.{◌≡◌, ◌+◌, ◌++◌}
 use Rattle.vt_value.specs.Text.{value_text}
-use Rattle.vt_value.specs.Walks.{left_text, left_weight}
-use Rattle.vt_value.specs.Weights.{weight_of}
+use Rattle.vt_value.specs.private.Walks.{left_text, left_weight}
+use Rattle.vt_value.specs.private.Weights.{weight_of}
 use Rattle.vt_value.proofs.write.text_of.Given as goal
 
 abbrev pub invariant-loop-rings : goal.invariant-loop-rings

@@ -1,8 +1,8 @@
 use Rattle.std.proofs.Common.{◌∙◌, sym, ap, arith, ℕ, List, [], ◌∷◌, ◌++◌}
 use Rattle.vt_value.specs.declared.write.Left.{Left}
 use Rattle.vt_value.specs.Text.{value_text}
-use Rattle.vt_value.specs.Walks.{left_text, left_weight, rest_text}
-use Rattle.vt_value.specs.Weights.{weights_of}
+use Rattle.vt_value.specs.private.Walks.{left_text, left_weight, rest_text}
+use Rattle.vt_value.specs.private.Weights.{weights_of}
 use Rattle.vt_value.proofs.Layers.{weight-items}
 use Rattle.vt_value.proofs.TextLemmas.{left_text-append, left_weight-append, text-first, opened_text}
 use Rattle.vt_value.proofs.write.write_first.Goals as goal

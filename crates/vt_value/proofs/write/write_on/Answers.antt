@@ -4,8 +4,8 @@ use Rattle.std.specs.Prelude.{codes}
 use Rattle.vt_value.specs.declared.write.Left.{Left}
 use Rattle.vt_value.specs.declared.value.Value.{Value}
 use Rattle.vt_value.specs.Text.{value_text}
-use Rattle.vt_value.specs.Walks.{left_text, left_weight, rest_text}
-use Rattle.vt_value.specs.Weights.{weights_of}
+use Rattle.vt_value.specs.private.Walks.{left_text, left_weight, rest_text}
+use Rattle.vt_value.specs.private.Weights.{weights_of}
 use Rattle.vt_value.proofs.TextLemmas.{left_text-append, left_weight-append, rest_text-next, closed_text, goes_on_text}
 use Rattle.vt_value.proofs.write.write_on.Goals as goal
 

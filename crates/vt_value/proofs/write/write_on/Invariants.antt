@@ -1,5 +1,5 @@
 use Rattle.std.proofs.Common.{◌≡◌, ◌≤◌, ◌++◌, vec_len}
-use Rattle.vt_value.specs.Walks.{left_text, left_weight}
+use Rattle.vt_value.specs.private.Walks.{left_text, left_weight}
 use Rattle.vt_value.proofs.write.write_on.Given as goal
 
 abbrev pub invariant-loop-ring : goal.invariant-loop-ring

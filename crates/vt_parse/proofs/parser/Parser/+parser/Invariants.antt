@@ -2,7 +2,7 @@ use Rattle.std.proofs.Common.{ℕ, ◌+◌, ◌*◌, ◌++◌, length}
 use Rattle.vt_tree.specs.declared.expression.ChainKind.{ChainKind}
 use Rattle.vt_tree.specs.declared.expression.ChainKind.TheVariants as chains
 use Rattle.vt_grammar.specs.Form.{many}
-use Rattle.vt_parse.specs.Levels.{below, ops_of}
+use Rattle.vt_parse.specs.private.Levels.{below, ops_of}
 use Rattle.vt_grammar.specs.Trees.{gathered, present, with_parts}
 use Rattle.vt_grammar.specs.Grammar.{after_part, elsif, labels_begun, line, link, next_arg, next_item, opened, part}
 use Rattle.vt_parse.proofs.Loops.{Continues}

@@ -1,8 +1,8 @@
-use Rattle.vt_parse.proofs.Fronts.{front_rest, front_value}
+use Rattle.vt_parse.proofs.Heads.{head_rest, head_value}
 use Rattle.vt_parse.proofs.parser.Parser.bump.Goals as goal
 
 pub returns-clause-passed : goal.returns-clause-passed
-returns-clause-passed c = rw (← c.self.view_is, c.number_with-self-inside.ensures, c.word_at-word.ensures) (front_rest _ _ _ _ c.in-len1-up.len_at_least)
+returns-clause-passed c = rw (← c.self.view_is, c.number_with-self-inside.ensures, c.terminal_at-terminal.ensures) (head_rest _ _ _ _ c.in-len1-up.len_at_least)
 
 pub returns-clause-value : goal.returns-clause-value
-returns-clause-value c = rw c.word_at-word.ensures (front_value _ _ _ c.in-len1-up.len_at_least c.self.invariant.0)
+returns-clause-value c = rw c.terminal_at-terminal.ensures (head_value _ _ _ c.in-len1-up.len_at_least c.self.invariant.0)

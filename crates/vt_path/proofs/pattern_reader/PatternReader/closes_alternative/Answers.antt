@@ -1,6 +1,6 @@
 use Rattle.std.proofs.Common.{◌≡◌, [], arith}
 use Rattle.std.proofs.lemmas.List.{nil_from_length}
-use Rattle.vt_path.specs.PatternReading.{reading}
+use Rattle.vt_path.specs.private.PatternReading.{reading}
 use Rattle.vt_path.proofs.PatternAlternatives.{comma_steps, no_comma_empty, no_comma_full}
 use Rattle.vt_path.proofs.pattern_reader.PatternReader.closes_alternative.Goals as goal
 use Rattle.vt_path.proofs.pattern_reader.PatternReader.closes_alternative.Goals.{then-is_empty-via-then-is_empty, then-is_empty-via-else-is_empty+then-self-gt-MOST_BYTES}

@@ -1,6 +1,6 @@
 use Rattle.std.proofs.Common.{◌≡◌, [], arith}
 use Rattle.std.proofs.lemmas.List.{nil_from_length}
-use Rattle.vt_path.specs.PatternReading.{reading}
+use Rattle.vt_path.specs.private.PatternReading.{reading}
 use Rattle.vt_path.proofs.PatternAlternatives.{brace_end_steps, no_brace_end}
 use Rattle.vt_path.proofs.pattern_reader.PatternReader.closes_alternatives.Goals as goal
 

@@ -1,6 +1,6 @@
 use Rattle.std.proofs.Common.{◌≡◌, [], arith}
 use Rattle.std.proofs.lemmas.List.{nil_from_length}
-use Rattle.vt_path.specs.PatternReading.{reading, IsSegmentOf}
+use Rattle.vt_path.specs.private.PatternReading.{reading, IsSegmentOf}
 use Rattle.vt_path.proofs.PatternSteps.{slash_steps, no_slash_empty, no_slash_full}
 use Rattle.vt_path.proofs.pattern_reader.PatternReader.closes_segment.Goals as goal
 use Rattle.vt_path.proofs.pattern_reader.PatternReader.closes_segment.Goals.{then-is_empty-via-then-is_empty, then-is_empty-via-else-is_empty+then-len-eq-MOST_SEGMENTS}

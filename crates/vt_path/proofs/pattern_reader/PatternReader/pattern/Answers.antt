@@ -1,6 +1,6 @@
 use Rattle.std.proofs.Common.{◌≡◌, [], arith}
 use Rattle.std.proofs.lemmas.List.{nil_from_length}
-use Rattle.vt_path.specs.PatternReading.{reading}
+use Rattle.vt_path.specs.private.PatternReading.{reading}
 use Rattle.vt_path.proofs.PatternEnds.{ends_some, ends_none_empty, ends_none_inside}
 use Rattle.vt_path.specs.declared.pattern_reader.Place.TheVariants.{Between}
 use Rattle.vt_path.proofs.LiteralLemmas.{kept_pattern}

@@ -1,7 +1,7 @@
 use Rattle.std.proofs.Common.{◌≤◌, arith}
-use Rattle.vt_path.specs.PatternReading.{reading}
+use Rattle.vt_path.specs.private.PatternReading.{reading}
 use Rattle.vt_path.proofs.PatternSteps.{push_steps, no_push, inside_in}
-use Rattle.vt_path.specs.PatternReading.{IsBetween}
+use Rattle.vt_path.specs.private.PatternReading.{IsBetween}
 use Rattle.vt_path.specs.declared.pattern_reader.Place.TheVariants.{Between}
 use Rattle.vt_path.proofs.pattern_reader.PatternReader.pushes.Goals as goal
 

@@ -1,5 +1,5 @@
 use Rattle.std.proofs.Common.{arith}
-use Rattle.vt_path.specs.PatternReading.{reading}
+use Rattle.vt_path.specs.private.PatternReading.{reading}
 use Rattle.vt_path.proofs.PatternSteps.{no_other}
 use Rattle.vt_path.proofs.pattern_reader.PatternReader.takes_between.Goals as goal
 

@@ -1,5 +1,5 @@
 use Rattle.std.proofs.Common.{arith}
-use Rattle.vt_path.specs.PatternReading.{reading}
+use Rattle.vt_path.specs.private.PatternReading.{reading}
 use Rattle.vt_path.proofs.PatternInside.{set_byte_steps, no_set_byte_full, no_set_other}
 use Rattle.vt_path.proofs.pattern_reader.PatternReader.takes_in_set.Goals as goal
 use Rattle.vt_path.proofs.pattern_reader.PatternReader.takes_in_set.Goals.{then-not-is_path_byte-via-then-not-is_path_byte, then-not-is_path_byte-via-else-not-is_path_byte+then-self-gt-MOST_BYTES}

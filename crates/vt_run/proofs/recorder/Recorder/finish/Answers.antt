@@ -1,6 +1,6 @@
 use Rattle.std.proofs.Common.{ap}
 use Rattle.vt_run.specs.Notes.{Notes, finished}
-use Rattle.vt_run.proofs.Leads.{leads_halt}
+use Rattle.vt_run.proofs.notes.Leads.{leads_halt}
 use Rattle.vt_run.proofs.recorder.Recorder.finish.Goals as goal
 
 pub returns-clause-leads : goal.returns-clause-leads

@@ -1,6 +1,6 @@
 use Rattle.std.proofs.Common.{sym, subst}
 use Rattle.vt_run.specs.Limits.{AreChecked}
-use Rattle.vt_run.proofs.TextsKept.{checked_more}
+use Rattle.vt_run.proofs.facts.TextsKept.{checked_more}
 use Rattle.vt_run.proofs.texts.Texts.push.Goals as goal
 
 -- the push failed

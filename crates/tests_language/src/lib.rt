@@ -1,0 +1,11 @@
+//! Tests of the language over the public calls: one file a library.
+#![tactic(auto)]
+
+#[cfg(test)]
+mod check;
+#[cfg(test)]
+mod lex;
+#[cfg(test)]
+mod parse;
+#[cfg(test)]
+mod run;

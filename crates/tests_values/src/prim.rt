@@ -1,0 +1,318 @@
+//! The pure and random calls: their values, edges and faults, and the words that they draw.
+
+use crate::answers::{answer, answers};
+use crate::reader::{Row, row_of};
+use std::alloc::Global;
+use std::test::Fail;
+use vt_prim::call;
+use vt_rand::Stream;
+use vt_table::call_of;
+use vt_value::{Value, ValueFault};
+
+/// What the call of a row gives, or `None` where its name is that of no pure or random call.
+fn outcome_of(
+    alloc: Global,
+    row: &Row<'_>,
+    stream: &mut Stream,
+) -> Option<Result<Value, ValueFault>> {
+    let call_row = call_of(row.name.as_bytes())?;
+    if call_row.effect {
+        return None;
+    }
+    let args = row.arguments.values.as_slice();
+    let options = row.arguments.options.as_slice();
+    Some(call(alloc, call_row.number, args, options, stream))
+}
+
+/// What the call of a row gives, where it draws the words that the row says and no more.
+fn outcome(alloc: Global, line: &str) -> Option<Result<Value, ValueFault>> {
+    let row = row_of(alloc, line)?;
+    let mut stream = Stream::from_seed(row.seed);
+    let outcome = outcome_of(alloc, &row, &mut stream);
+    if stream.word() != row.next {
+        return None;
+    }
+    outcome
+}
+
+/// What stands behind the value or the fault of a row.
+fn draws_of(line: &str) -> &str {
+    match line.find(" drawing ") {
+        Some(at) => line.get(at..).unwrap_or(""),
+        None => "",
+    }
+}
+
+/// The answer of a row's call.
+pub(crate) fn called(alloc: Global, line: &str) -> Result<String, Fail> {
+    let outcome = outcome(alloc, line).ok_or("no pure or random call, or other words")?;
+    let text = answer(alloc, &outcome)?;
+    Ok(format!(in alloc; "{text}{}", draws_of(line))?)
+}
+
+const NUMBERS: &str = "\
+min 3, 2 => 2
+min 1, 1/1 => 1
+min 1/1, 1 => 1/1
+min 1, nil => wrong_kind
+min 1 => wrong_count
+max 3, 2 => 3
+max 1/1, 1 => 1/1
+max :a, 1 => wrong_kind
+abs -7 => 7
+abs -7/2 => 7/2
+abs \"a\" => wrong_kind
+inc 1/2 => 3/2
+inc 9223372036854775807 => overflow
+inc [] => wrong_kind
+dec 0 => -1
+dec -9223372036854775807 => overflow
+dec \"a\" => wrong_kind
+floor -5/2 => -3
+floor 7 => 7
+floor nil => wrong_kind
+ceil -5/2 => -2
+ceil 5/2 => 3
+ceil => wrong_count
+round 5/2 => 3
+round -5/2 => -2
+round 7/3 => 2
+round 4611686018427387904 => overflow
+round true => wrong_kind
+even -4 => true
+even 3 => false
+even 2/1 => wrong_kind
+odd -3 => true
+odd 0 => false
+odd nil => wrong_kind
+";
+
+#[test]
+fn calls_on_numbers(rt: HostRuntime) -> Result<(), Fail> {
+    assert_eq!(rt; answers(rt.alloc(), NUMBERS)?.as_str(), NUMBERS);
+    Ok(())
+}
+
+const COUNTS: &str = "\
+length [1, 2, 3] => 3
+length [] => 0
+length 1 => wrong_kind
+size [1, 2] => 2
+size [] => 0
+size \"ab\" => wrong_kind
+count [7] => 1
+count [] => 0
+count nil => wrong_kind
+sum [1, 2, 3] => 6
+sum [] => 0
+sum [1, 1/1] => 2/1
+sum [9223372036854775807, 1] => overflow
+sum [9223372036854775807, 1, nil] => wrong_kind
+sum 1 => wrong_kind
+sort [3, 1, 2] => [1, 2, 3]
+sort [] => []
+sort [1, 1/1, 0, 1] => [0, 1, 1/1, 1]
+sort [2, 1/2, -1] => [-1, 1/2, 2]
+sort [2, 1, nil] => wrong_kind
+first [7, 8] => 7
+first [] => empty_ring
+first :a => wrong_kind
+last [7, 8] => 8
+last [] => empty_ring
+last 1 => wrong_kind
+";
+
+#[test]
+fn calls_that_count_and_sort(rt: HostRuntime) -> Result<(), Fail> {
+    assert_eq!(rt; answers(rt.alloc(), COUNTS)?.as_str(), COUNTS);
+    Ok(())
+}
+
+const NOTES: &str = "\
+note :c4 => 60
+note :Fs5 => 78
+note 121/2 => 121/2
+note :rest => bad_note
+note nil => wrong_kind
+scale :c, :major => [60, 62, 64, 65, 67, 69, 71, 72]
+scale 1/2, :whole_tone => [1/2, 5/2, 9/2, 13/2, 17/2, 21/2, 25/2]
+scale 9223372036854775807, :major => overflow
+scale :h, :none => bad_note
+scale 60, :none => bad_value
+scale :h, 1 => wrong_kind
+chord :c, :major7 => [60, 64, 67, 71]
+chord 50, :m7 => [50, 53, 57, 60]
+chord 9223372036854775807, :dim => overflow
+chord 60, :major9 => bad_value
+chord :h, :none => bad_note
+octs :c, 3 => [60, 72, 84]
+octs 60, 1 => [60]
+octs 60, 0 => bad_value
+octs 60, 17 => bad_value
+octs :h, 0 => bad_note
+octs :h, 1/1 => wrong_kind
+";
+
+#[test]
+fn calls_on_notes(rt: HostRuntime) -> Result<(), Fail> {
+    assert_eq!(rt; answers(rt.alloc(), NOTES)?.as_str(), NOTES);
+    Ok(())
+}
+
+const MADE: &str = "\
+ring 1, nil, :a => [1, nil, :a]
+ring => []
+ring [1, 2] => [1, 2]
+ring [1], [] => [[1], []]
+ring 5/1 => [5/1]
+knit :a, 2, :b, 1 => [:a, :a, :b]
+knit => []
+knit :a => wrong_count
+knit :a, -1, :b, nil => wrong_kind
+knit :a, 4097, :b, -1 => bad_value
+knit :a, 4097 => too_large
+bools 1, 0, -3 => [true, false, true]
+bools => []
+bools 1, true => wrong_kind
+range 1, 4 => [1, 2, 3]
+range 4, 1 => [4, 3, 2]
+range 0, 1, 1/2 => [0/1, 1/2]
+range 0, 4, 2 => [0, 2]
+range 0/1, 1 => [0/1]
+range 1, 1 => []
+range -9223372036854775807, 9223372036854775807, 0 => bad_value
+range -9223372036854775807, 9223372036854775807 => overflow
+range 0, 5000 => too_large
+range 0, 1, nil => wrong_kind
+line 0, 1 => [0/1, 1/4, 1/2, 3/4]
+line 1, 1 => [1/1, 1/1, 1/1, 1/1]
+line -9223372036854775807, 9223372036854775807 => overflow
+line 0, nil => wrong_kind
+spread 3, 4 => [true, false, true, true]
+spread 0, 1 => [false]
+spread 2, 1 => bad_value
+spread 0, 0 => bad_value
+spread 9, 1/1 => wrong_kind
+";
+
+#[test]
+fn calls_that_make_rings(rt: HostRuntime) -> Result<(), Fail> {
+    assert_eq!(rt; answers(rt.alloc(), MADE)?.as_str(), MADE);
+    Ok(())
+}
+
+const PARTS: &str = "\
+take [1, 2, 3], 2 => [1, 2]
+take [1], 5 => [1]
+take [1], -1 => bad_value
+take 1, -1 => wrong_kind
+drop [1, 2, 3], 2 => [3]
+drop [1], 5 => []
+drop [], -1 => bad_value
+take_last [1, 2, 3], 2 => [2, 3]
+take_last [1], 5 => [1]
+take_last [1], -1 => bad_value
+drop_last [1, 2, 3], 2 => [1]
+drop_last [1], 5 => []
+drop_last [1], 1/1 => wrong_kind
+butlast [1, 2] => [1]
+butlast [] => []
+butlast nil => wrong_kind
+reverse [1, 2, 3] => [3, 2, 1]
+reverse [] => []
+reverse \"ab\" => wrong_kind
+mirror [1, 2] => [1, 2, 2, 1]
+mirror [] => []
+mirror 1 => wrong_kind
+reflect [1, 2, 3] => [1, 2, 3, 2, 1]
+reflect [] => []
+reflect nil => wrong_kind
+rotate [1, 2, 3] => [2, 3, 1]
+rotate [1, 2, 3], -1 => [3, 1, 2]
+rotate [], 9223372036854775807 => []
+rotate [1, 2], 9223372036854775807 => overflow
+rotate [1], nil => wrong_kind
+stretch [1, 2], 2 => [1, 1, 2, 2]
+stretch [1], -1 => bad_value
+stretch [1], 4097 => too_large
+repeat [1, 2], 2 => [1, 2, 1, 2]
+repeat [1], -1 => bad_value
+repeat [1], 4097 => too_large
+";
+
+#[test]
+fn calls_on_parts_of_rings(rt: HostRuntime) -> Result<(), Fail> {
+    assert_eq!(rt; answers(rt.alloc(), PARTS)?.as_str(), PARTS);
+    Ok(())
+}
+
+const OPTIONS: &str = "\
+scale 0, :minor_pentatonic, num_octaves: 2 => [0, 3, 5, 7, 10, 12, 15, 17, 19, 22, 24]
+scale 0, :major, num_octaves: 9 => bad_value
+scale 0, :none, num_octaves: nil => wrong_kind
+scale :h, :major, num_octaves: 0 => bad_note
+range 0, 3, step: 2 => [0, 2]
+range 0, 1, step: 1/2 => [0/1, 1/2]
+range nil, 1, 1, step: 1 => wrong_count
+range 0, 1, step: 0 => bad_value
+line 0, 1, steps: 2 => [0/1, 1/2]
+line -9223372036854775807, 9223372036854775807, steps: 0 => bad_value
+line nil, 1, steps: 4097 => wrong_kind
+";
+
+#[test]
+fn options_and_their_faults(rt: HostRuntime) -> Result<(), Fail> {
+    assert_eq!(rt; answers(rt.alloc(), OPTIONS)?.as_str(), OPTIONS);
+    Ok(())
+}
+
+// The values, and how many words are drawn, by bench/random_calls; the faults by hand.
+const DRAWS: &str = "\
+rand => 6485/8192 drawing 1 of seed 42
+rand 2 => 6485/4096 drawing 1 of seed 42
+rand 1/3 => 6485/24576 drawing 1 of seed 42
+rand 1/9223372036854775807 => overflow drawing 1 of seed 42
+rand nil => wrong_kind drawing 0 of seed 42
+rand_i 12 => 9 drawing 1 of seed 42
+rand_i 1 => 0 drawing 1 of seed 42
+rand_i 4294967295 => 3400036911 drawing 1 of seed 42
+rand_i 4294967296 => bad_value drawing 0 of seed 42
+rand_i 1/1 => wrong_kind drawing 0 of seed 42
+rrand 1, 2 => 14677/8192 drawing 1 of seed 42
+rrand 1/2, -3 => -37203/16384 drawing 1 of seed 42
+rrand -9223372036854775807, 9223372036854775807 => overflow drawing 1 of seed 42
+rrand 1, nil => wrong_kind drawing 0 of seed 42
+rrand_i 1, 6 => 5 drawing 1 of seed 42
+rrand_i -5, -5 => -5 drawing 1 of seed 42
+rrand_i -3, 4294967291 => 3400036908 drawing 1 of seed 42
+rrand_i -3, 4294967292 => bad_value drawing 0 of seed 42
+rrand_i 2, 1 => bad_value drawing 0 of seed 42
+dice => 5 drawing 1 of seed 42
+dice 20 => 16 drawing 1 of seed 42
+dice 0 => bad_value drawing 0 of seed 42
+one_in 1 => true drawing 1 of seed 42
+one_in 2 => false drawing 1 of seed 42
+one_in -1 => bad_value drawing 0 of seed 42
+choose [7, 8, 9] => 9 drawing 1 of seed 42
+choose [7] => 7 drawing 1 of seed 42
+choose [] => empty_ring drawing 0 of seed 42
+choose nil => wrong_kind drawing 0 of seed 42
+pick [7, 8, 9] => [9] drawing 1 of seed 42
+pick [7, 8, 9], 5 => [9, 9, 7, 9, 8] drawing 5 of seed 42
+pick [7], 0 => [] drawing 0 of seed 42
+pick [], 0 => [] drawing 0 of seed 42
+pick [], 5000 => empty_ring drawing 0 of seed 42
+pick [], -1 => bad_value drawing 0 of seed 42
+pick [7], 4097 => bad_value drawing 0 of seed 42
+pick [], nil => wrong_kind drawing 0 of seed 42
+shuffle [1, 2, 3, 4, 5] => [3, 2, 1, 5, 4] drawing 4 of seed 42
+shuffle [1] => [1] drawing 0 of seed 42
+shuffle [] => [] drawing 0 of seed 42
+shuffle 1 => wrong_kind drawing 0 of seed 42
+";
+
+#[test]
+fn random_calls_draw_the_words_of_their_seed(rt: HostRuntime) -> Result<(), Fail> {
+    assert_eq!(rt; answers(rt.alloc(), DRAWS)?.as_str(), DRAWS);
+    Ok(())
+}

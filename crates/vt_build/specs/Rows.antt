@@ -1,9 +1,0 @@
--- The tables of spellings, as the grammar has them.
-use Rattle.std.specs.Prelude.{List, [], ◌∷◌}
-use Rattle.vt_build.specs.declared.words.Row.{Row}
-use Rattle.vt_grammar.specs.Marks.{Spelling}
-
--- the spelling and the word of each row
-abbrev pub rows_of : List Row → List Spelling
-rows_of [] = []
-rows_of (row ∷ rows) = (row.spelling.now, row.word) ∷ rows_of rows

@@ -1,5 +1,0 @@
-use Rattle.vt_grammar.specs.Verdict.{always}
-use Rattle.vt_grammar.proofs.texts.always_law.Goals as goal
-
-pub returns : goal.returns
-returns c = always

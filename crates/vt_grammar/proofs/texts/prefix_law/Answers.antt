@@ -1,5 +1,0 @@
-use Rattle.vt_grammar.proofs.TextLaws.{prefixes_begin}
-use Rattle.vt_grammar.proofs.texts.prefix_law.Goals as goal
-
-pub returns : goal.returns
-returns c = prefixes_begin

@@ -1,5 +1,0 @@
-use Rattle.vt_grammar.proofs.TextLaws.{read_begins}
-use Rattle.vt_grammar.proofs.texts.whole_law.Goals as goal
-
-pub returns : goal.returns
-returns c = read_begins

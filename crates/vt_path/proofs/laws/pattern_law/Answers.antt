@@ -1,8 +1,0 @@
-use Rattle.vt_path.proofs.DecidedLemmas.{none_where_no_pattern, pattern_where_written}
-use Rattle.vt_path.proofs.laws.pattern_law.Goals as goal
-
-pub returns-clause-written : goal.returns-clause-written
-returns-clause-written c = pattern_where_written
-
-pub returns-clause-none : goal.returns-clause-none
-returns-clause-none c = none_where_no_pattern

@@ -1,0 +1,4 @@
+-- What only the clauses of private functions cite.
+pub mod Adding
+pub mod Climbing
+pub mod Sorting

@@ -1,0 +1,15 @@
+-- What is known of arguments, events, names, locals and blocks.
+pub mod ArgumentFacts
+pub mod BlocksOfTexts
+pub mod DeedFacts
+pub mod EventFacts
+pub mod Fitting
+pub mod Known
+pub mod NameFacts
+pub mod NoteFacts
+pub mod OperatorFacts
+pub mod PairFacts
+pub mod TextFacts
+pub mod TextsKept
+pub mod TreeFacts
+pub mod TurnFacts

@@ -1,0 +1,304 @@
+-- Events of each kind are well made.
+use Rattle.std.proofs.Common.{◌≡◌, ◌≢◌, ◌<◌, ℕ, List, [], ◌∷◌, Option, Some, None, inl, inr, refl, sym, ap, subst, ◌∙◌, true≢false}
+use Rattle.std.specs.Prelude.{IsTrue, ◌^◌, codes, pos}
+use Rattle.std.proofs.lemmas.Bool.{lt-ltb}
+use Rattle.vt_frac.specs.Fraction.{IsFraction}
+use Rattle.vt_path.specs.declared.inner_path.InnerKind.{InnerKind}
+use Rattle.vt_path.specs.declared.inner_path.InnerKind.TheVariants.{Named as NamedPath, Looped as LoopedPath}
+use Rattle.vt_path.specs.Inner.{IsInner, inner_of}
+use Rattle.vt_value.specs.declared.fault.FaultKind.{FaultKind}
+use Rattle.vt_value.specs.declared.value.Value.{Value, out-Value, out-roll-Value}
+use Rattle.vt_value.specs.declared.value.Value.TheOpen.{Value-F}
+use Rattle.vt_value.specs.declared.value.Value.TheVariants.{Nil, Ring, Whole, rolls-Nil, rolls-Whole}
+use Rattle.vt_value.specs.Kinds.{is_nil, nil_layer, whole_layer}
+use Rattle.vt_value.specs.Limits.{IsWithin}
+use Rattle.vt_frac.specs.Names.{is_symbol_name}
+use Rattle.vt_event.specs.declared.place.Place.{Place}
+use Rattle.vt_event.specs.declared.references.BlockRef.{BlockRef}
+use Rattle.vt_event.specs.declared.references.FxId.{FxId}
+use Rattle.vt_event.specs.EventsByKind.{body_event, cue_event, defined_event, ended_event, fault_event, fx_event, log_event, play_event, sample_event, set_event, started_event, synth_event, took_event}
+use Rattle.vt_event.specs.Kinds.{is_count, is_effect_number, is_note, is_sample_name}
+use Rattle.vt_event.specs.Pairs.{Pairs}
+use Rattle.vt_run.specs.declared.role.Role.{Role}
+use Rattle.vt_run.specs.declared.role.Role.TheVariants.{Plain, Named, Looped}
+use Rattle.vt_run.specs.Actions.{name_path}
+use Rattle.vt_run.specs.Limits.{ArePairsWithin, IsEventWithin, IsPathWithin, IsRoleWithin}
+use Rattle.vt_run.specs.WellMade.{IsWellMade}
+use Rattle.vt_run.proofs.facts.Known.{IsTold}
+use Rattle.vt_run.proofs.facts.NameFacts.{live_loop_segment, named_path, word_outside}
+use Rattle.vt_ring.proofs.limits.Values.{within_nil, within_ring, within_whole}
+
+nil_is : IsTrue (is_nil Nil)
+nil_is = ap (λ (layer : Value-F Value). nil_layer layer) (sym (ap out-Value rolls-Nil) ∙ out-roll-Value Value-F.Nil)
+
+number_is : (number : ℕ) → number < 2 ^ 32 → IsTrue (is_effect_number (Whole (pos number)))
+number_is number small =
+    ap (λ (layer : Value-F Value). is_count (whole_layer layer)) (sym (ap out-Value (rolls-Whole (pos number))) ∙ out-roll-Value (Value-F.Whole (pos number)))
+    ∙ lt-ltb number (2 ^ 32) small
+
+some_same : {X : Type 0} {x y : X} → Some x ≡ Some y → x ≡ y
+some_same e = cc
+
+no_some : {X : Type 0} {x : X} → None ≡ Some x → ⊥
+no_some e = cc
+
+pub fault_told : (L : Type 0) (kind : FaultKind) (line : ℕ) (place : Place) → (L → IsFraction place.time) → IsTold L place (fault_event place kind line)
+fault_told L kind line place time = record {
+  placed = refl;
+  made = record {
+    fields = record {
+      path_with_kind = refl;
+      no_name = λ e. refl;
+      value_with_kind = nil_is;
+      no_options = λ e. refl;
+      no_fx = λ e. refl;
+      body_with_kind = refl;
+      no_line = λ e. absurd (true≢false e);
+    };
+    outside = λ w. absurd (true≢false (sym w));
+  };
+  within = λ l. record { time = time l; path = tt; name = λ n. absurd (true≢false (sym n)); value = within_nil; options = tt; body = tt };
+}
+
+pub ended_told : (L : Type 0) (path : List (List ℕ)) (place : Place) → (L → IsInner path) → (L → IsFraction place.time) → IsTold L place (ended_event place path)
+ended_told L path place inner time = record {
+  placed = refl;
+  made = record {
+    fields = record {
+      path_with_kind = refl;
+      no_name = λ e. refl;
+      value_with_kind = nil_is;
+      no_options = λ e. refl;
+      no_fx = λ e. refl;
+      body_with_kind = refl;
+      no_line = λ e. refl;
+    };
+    outside = λ w. absurd (true≢false (sym w));
+  };
+  within = λ l. record { time = time l; path = inr (inner l); name = λ n. absurd (true≢false (sym n)); value = within_nil; options = tt; body = tt };
+}
+
+pub started_told : (L : Type 0) (path : List (List ℕ)) (place : Place) → (L → IsInner path) → (L → IsFraction place.time) → IsTold L place (started_event place path)
+started_told L path place inner time = record {
+  placed = refl;
+  made = record {
+    fields = record {
+      path_with_kind = refl;
+      no_name = λ e. refl;
+      value_with_kind = nil_is;
+      no_options = λ e. refl;
+      no_fx = λ e. refl;
+      body_with_kind = refl;
+      no_line = λ e. refl;
+    };
+    outside = λ w. absurd (true≢false (sym w));
+  };
+  within = λ l. record { time = time l; path = inr (inner l); name = λ n. absurd (true≢false (sym n)); value = within_nil; options = tt; body = tt };
+}
+
+pub body_told : (L : Type 0) (path : List (List ℕ)) (block : BlockRef) (locals : Pairs) (line : ℕ) (place : Place) →
+    (L → IsInner path) → (L → ArePairsWithin locals) → (L → IsFraction place.time) → IsTold L place (body_event place path block locals line)
+body_told L path block locals line place inner pairs time = record {
+  placed = refl;
+  made = record {
+    fields = record {
+      path_with_kind = refl;
+      no_name = λ e. refl;
+      value_with_kind = nil_is;
+      no_options = λ e. refl;
+      no_fx = λ e. refl;
+      body_with_kind = refl;
+      no_line = λ e. absurd (true≢false e);
+    };
+    outside = λ w. absurd (true≢false (sym w));
+  };
+  within = λ l. record { time = time l; path = inr (inner l); name = λ n. absurd (true≢false (sym n)); value = within_nil; options = tt; body = pairs l };
+}
+
+pub defined_told : (L : Type 0) (path : List (List ℕ)) (block : BlockRef) (locals : Pairs) (place : Place) →
+    (L → IsInner path) → (L → ArePairsWithin locals) → (L → IsFraction place.time) → IsTold L place (defined_event place path block locals)
+defined_told L path block locals place inner pairs time = record {
+  placed = refl;
+  made = record {
+    fields = record {
+      path_with_kind = refl;
+      no_name = λ e. refl;
+      value_with_kind = nil_is;
+      no_options = λ e. refl;
+      no_fx = λ e. refl;
+      body_with_kind = refl;
+      no_line = λ e. refl;
+    };
+    outside = λ w. absurd (true≢false (sym w));
+  };
+  within = λ l. record { time = time l; path = inr (inner l); name = λ n. absurd (true≢false (sym n)); value = within_nil; options = tt; body = pairs l };
+}
+
+pub took_told : (L : Type 0) (path : List (List ℕ)) (value : Value) (place : Place) →
+    (L → IsPathWithin path) → (L → IsWithin value) → (L → IsFraction place.time) → IsTold L place (took_event place path value)
+took_told L path value place good held time = record {
+  placed = refl;
+  made = record {
+    fields = record {
+      path_with_kind = refl;
+      no_name = λ e. refl;
+      value_with_kind = refl;
+      no_options = λ e. refl;
+      no_fx = λ e. refl;
+      body_with_kind = refl;
+      no_line = λ e. refl;
+    };
+    outside = λ w. absurd (true≢false (sym w));
+  };
+  within = λ l. record { time = time l; path = good l; name = λ n. absurd (true≢false (sym n)); value = held l; options = tt; body = tt };
+}
+
+pub cue_told : (L : Type 0) (path : List (List ℕ)) (value : Value) (place : Place) →
+    (L → IsPathWithin path) → (L → IsWithin value) → (L → IsFraction place.time) → ((kind : InnerKind) (name : List ℕ) → path ≢ inner_of kind name) → IsTold L place (cue_event place path value)
+cue_told L path value place good held time other = record {
+  placed = refl;
+  made = record {
+    fields = record {
+      path_with_kind = refl;
+      no_name = λ e. refl;
+      value_with_kind = refl;
+      no_options = λ e. refl;
+      no_fx = λ e. refl;
+      body_with_kind = refl;
+      no_line = λ e. refl;
+    };
+    outside = λ w kind name e. other kind name (some_same e);
+  };
+  within = λ l. record { time = time l; path = good l; name = λ n. absurd (true≢false (sym n)); value = held l; options = tt; body = tt };
+}
+
+-- a live loop tells of each of its turns
+pub turn_told : (L : Type 0) (name : List ℕ) (place : Place) → (L → IsTrue (is_symbol_name name)) → (L → IsFraction place.time) → IsTold L place (cue_event place (codes "live_loop" ∷ name ∷ []) (Ring []))
+turn_told L name place symbol time =
+    cue_told L (codes "live_loop" ∷ name ∷ []) (Ring []) place (λ l. inl (named_path (codes "live_loop") name live_loop_segment (symbol l))) (λ l. within_ring [] refl tt) time
+    (word_outside (codes "live_loop") name live_loop_segment)
+
+pub set_told : (L : Type 0) (path : List (List ℕ)) (value : Value) (place : Place) →
+    (L → IsPathWithin path) → (L → IsWithin value) → (L → IsFraction place.time) → ((kind : InnerKind) (name : List ℕ) → path ≢ inner_of kind name) → IsTold L place (set_event place path value)
+set_told L path value place good held time other = record {
+  placed = refl;
+  made = record {
+    fields = record {
+      path_with_kind = refl;
+      no_name = λ e. refl;
+      value_with_kind = refl;
+      no_options = λ e. refl;
+      no_fx = λ e. refl;
+      body_with_kind = refl;
+      no_line = λ e. refl;
+    };
+    outside = λ w kind name e. other kind name (some_same e);
+  };
+  within = λ l. record { time = time l; path = good l; name = λ n. absurd (true≢false (sym n)); value = held l; options = tt; body = tt };
+}
+
+pub log_told : (L : Type 0) (value : Value) (place : Place) → (L → IsWithin value) → (L → IsFraction place.time) → IsTold L place (log_event place value)
+log_told L value place held time = record {
+  placed = refl;
+  made = record {
+    fields = record {
+      path_with_kind = refl;
+      no_name = λ e. refl;
+      value_with_kind = refl;
+      no_options = λ e. refl;
+      no_fx = λ e. refl;
+      body_with_kind = refl;
+      no_line = λ e. refl;
+    };
+    outside = λ w. absurd (true≢false (sym w));
+  };
+  within = λ l. record { time = time l; path = tt; name = λ n. absurd (true≢false (sym n)); value = held l; options = tt; body = tt };
+}
+
+pub play_told : (L : Type 0) (synth : List ℕ) (note : Value) (options : Pairs) (fx : Option FxId) (place : Place) →
+    IsTrue (is_note note) → (L → IsTrue (is_symbol_name synth)) → (L → IsWithin note) → (L → ArePairsWithin options) → (L → IsFraction place.time) →
+    IsTold L place (play_event place synth note options fx)
+play_told L synth note options fx place number symbol held pairs time = record {
+  placed = refl;
+  made = record {
+    fields = record {
+      path_with_kind = refl;
+      no_name = λ e. absurd (true≢false e);
+      value_with_kind = number;
+      no_options = λ e. absurd (true≢false e);
+      no_fx = λ e. absurd (true≢false e);
+      body_with_kind = refl;
+      no_line = λ e. refl;
+    };
+    outside = λ w. absurd (true≢false (sym w));
+  };
+  within = λ l. record { time = time l; path = tt; name = λ n. symbol l; value = held l; options = pairs l; body = tt };
+}
+
+pub synth_told : (L : Type 0) (name : List ℕ) (options : Pairs) (fx : Option FxId) (place : Place) →
+    (L → IsTrue (is_symbol_name name)) → (L → ArePairsWithin options) → (L → IsFraction place.time) → IsTold L place (synth_event place name options fx)
+synth_told L name options fx place symbol pairs time = record {
+  placed = refl;
+  made = record {
+    fields = record {
+      path_with_kind = refl;
+      no_name = λ e. absurd (true≢false e);
+      value_with_kind = nil_is;
+      no_options = λ e. absurd (true≢false e);
+      no_fx = λ e. absurd (true≢false e);
+      body_with_kind = refl;
+      no_line = λ e. refl;
+    };
+    outside = λ w. absurd (true≢false (sym w));
+  };
+  within = λ l. record { time = time l; path = tt; name = λ n. symbol l; value = within_nil; options = pairs l; body = tt };
+}
+
+pub sample_told : (L : Type 0) (sample : Value) (options : Pairs) (fx : Option FxId) (place : Place) →
+    IsTrue (is_sample_name sample) → (L → IsWithin sample) → (L → ArePairsWithin options) → (L → IsFraction place.time) → IsTold L place (sample_event place sample options fx)
+sample_told L sample options fx place named held pairs time = record {
+  placed = refl;
+  made = record {
+    fields = record {
+      path_with_kind = refl;
+      no_name = λ e. refl;
+      value_with_kind = named;
+      no_options = λ e. absurd (true≢false e);
+      no_fx = λ e. absurd (true≢false e);
+      body_with_kind = refl;
+      no_line = λ e. refl;
+    };
+    outside = λ w. absurd (true≢false (sym w));
+  };
+  within = λ l. record { time = time l; path = tt; name = λ n. absurd (true≢false (sym n)); value = held l; options = pairs l; body = tt };
+}
+
+-- an effect, whose number is one of 32 bits
+pub fx_made : (place : Place) (name : List ℕ) (number : ℕ) (options : Pairs) (fx : Option FxId) → number < 2 ^ 32 → IsWellMade (fx_event place name number options fx)
+fx_made place name number options fx small = record {
+  fields = record {
+    path_with_kind = refl;
+    no_name = λ e. absurd (true≢false e);
+    value_with_kind = number_is number small;
+    no_options = λ e. absurd (true≢false e);
+    no_fx = λ e. absurd (true≢false e);
+    body_with_kind = refl;
+    no_line = λ e. refl;
+  };
+  outside = λ w. absurd (true≢false (sym w));
+}
+
+pub fx_within : (place : Place) (name : List ℕ) (number : ℕ) (options : Pairs) (fx : Option FxId) →
+    IsFraction place.time → IsTrue (is_symbol_name name) → ArePairsWithin options → number < 2 ^ 63 → IsEventWithin (fx_event place name number options fx)
+fx_within place name number options fx time symbol pairs small =
+    record { time = time; path = tt; name = λ n. symbol; value = within_whole (pos number) small; options = pairs; body = tt }
+
+-- the inner path of a symbol's name
+pub inner_path : (kind : InnerKind) (name : List ℕ) → IsTrue (is_symbol_name name) → IsInner (inner_of kind name)
+inner_path kind name symbol = record { kind = kind; name = name; symbol = symbol; whole = refl }
+
+-- the path at which a thread tells of its start and of its end
+pub name_path_inner : (role : Role) (path : List (List ℕ)) → IsRoleWithin role → name_path role ≡ Some path → IsInner path
+name_path_inner Plain path held e = absurd (no_some e)
+name_path_inner (Named name) path held e = subst IsInner (some_same e) (inner_path NamedPath name held)
+name_path_inner (Looped name wait) path held e = subst IsInner (some_same e) (inner_path LoopedPath name held.0)

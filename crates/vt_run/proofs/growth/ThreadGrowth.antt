@@ -1,0 +1,183 @@
+-- What is kept by the parts of a run holds of whole threads.
+use Rattle.std.proofs.Common.{◌≡◌, ◌≤◌, inr, ℕ, zero, suc, ◌-◌, List, [], ◌∷◌, Option, Some, None, refl, sym, subst, arith}
+use Rattle.std.specs.Prelude.{◌++◌, codes, IsTrue}
+use Rattle.std.specs.List.{AllByRecursion}
+use Rattle.std.proofs.lemmas.List.Elements.{recursion_from_All}
+use Rattle.vt_path.specs.declared.pattern.Segment.{Segment}
+use Rattle.vt_path.specs.declared.inner_path.InnerKind.TheVariants.{Body as BodyPath}
+use Rattle.vt_path.specs.Inner.{inner_of}
+use Rattle.vt_path.specs.Match.{literal_of}
+use Rattle.vt_tree.specs.declared.expression.Node.TheFolds.{every_here-Block}
+use Rattle.vt_tree.specs.declared.statement.Block.{Block}
+use Rattle.vt_tree.specs.WellFormed.{GoodArm, GoodCall, GoodExpr, GoodForm, GoodLink, GoodNode, GoodSimple, GoodStmt}
+use Rattle.vt_value.specs.declared.fault.FaultKind.TheVariants.{NoSleep}
+use Rattle.vt_value.specs.declared.value.Value.{Value}
+use Rattle.vt_value.specs.declared.value.Value.TheVariants.{Ring}
+use Rattle.vt_frac.specs.Names.{IsName, is_symbol_name}
+use Rattle.vt_event.specs.declared.references.BlockRef.{BlockRef}
+use Rattle.vt_event.specs.EventsByKind.{cue_event}
+use Rattle.vt_event.specs.Pairs.{Pairs}
+use Rattle.vt_run.specs.declared.action.Answer.{Answer}
+use Rattle.vt_run.specs.declared.action.Answer.TheVariants.{Nothing, Found}
+use Rattle.vt_run.specs.declared.action.EndReason.TheVariants.{Done, Stopped}
+use Rattle.vt_run.specs.declared.role.Role.{Role}
+use Rattle.vt_run.specs.declared.role.Role.TheVariants.{Plain, Named, Looped}
+use Rattle.vt_run.specs.declared.state.State.{State}
+use Rattle.vt_run.specs.declared.texts.Texts.{Texts}
+use Rattle.vt_run.specs.Actions.{acted, ends}
+use Rattle.vt_run.specs.Costs.{pair_sizes}
+use Rattle.vt_run.specs.Environment.{Body, Env}
+use Rattle.vt_run.specs.calls.FunctionCalls.{body_found, found_at, found_with}
+use Rattle.vt_run.specs.Limits.{AreChecked, ArePairsWithin, IsAnswerWithin, IsBodyWithin, IsRoleWithin, IsWaitWithin}
+use Rattle.vt_run.specs.calls.LiveLoops.{live_turns, turn_of, waits_first}
+use Rattle.vt_run.specs.Scopes.{BlockMeaning, params_with, with_locals}
+use Rattle.vt_run.specs.Evaluation.{Evaluation, Ran, Spot, halts}
+use Rattle.vt_run.specs.Threads.{block_of, body_by, by_role, called, env_of, first_block, first_spot, opening, thread}
+use Rattle.vt_run.specs.TreeMeaning.{block_meaning}
+use Rattle.vt_run.specs.calls.TurnCalls.{turn_begun, unless_idle}
+use Rattle.vt_run.proofs.facts.BlocksOfTexts.{FitBlock, IsFitBlock, blocks_fit}
+use Rattle.vt_run.proofs.growth.CallGrowth.{BlockFits, reads_keep, runs_found_keep, with_pairs}
+use Rattle.vt_run.proofs.growth.Closures.{BodyGrows, neither, both, Closure, Subject, SpotGrows, Two, answered_state, charges_keep, cond_keeps, emit_keeps, ends_keep, fails_keep, high, low}
+use Rattle.vt_run.proofs.facts.EventFacts.{inner_path, turn_told}
+use Rattle.vt_run.proofs.facts.Known.{IsStateWithin, like, place_in}
+use Rattle.vt_run.proofs.facts.PairFacts.{pairs_append, params_within}
+use Rattle.vt_run.proofs.growth.TreeGrowth.{block_is, tree_grows}
+
+-- the parameters of a block of the texts are names
+names_of : (texts : Texts) (text : ℕ) (block : Block) → IsFitBlock texts text block → AllByRecursion IsName (block_meaning block).params
+unfolding block_meaning
+names_of texts text block h =
+    subst (λ (m : BlockMeaning). AllByRecursion IsName m.params) (sym (block_is block))
+    (recursion_from_All IsName _ (every_here-Block GoodNode GoodSimple GoodForm GoodCall GoodExpr GoodLink GoodArm (FitBlock texts text) GoodStmt block h).0)
+
+module _ (two : Two) where
+  abbrev Stays : State → Type 0
+  Stays st = two.e.L → IsStateWithin st
+
+  meaning_grows : (block : Block) → (two.e.L → IsFitBlock two.e.texts two.text block) → BlockFits two (block_meaning block)
+  unfolding block_meaning
+  meaning_grows block h = tree_grows two block h
+
+  -- a turn of a live loop, of at most j steps that matter
+  turn_keeps : (o o' : Option Body) → BodyGrows two.R two.e.L (two.n - 1) o o' → (line : ℕ) (locals : Pairs) → (two.e.L → ArePairsWithin locals) → (j : ℕ) → j ≤ two.n - 1 → (st : State) → Stays st → (go go' : State → Ran) → ((st : State) → Stays st → two.R j st (go st) (go' st)) →
+      two.R j st (turn_of (found_with line locals o) (low two) st go) (turn_of (found_with line locals o') (high two) st go')
+  turn_keeps _ _ neither line locals p j le st s go go' k = ends_keep two Stopped st s
+  turn_keeps _ _ (both params f g names h) line locals p j le st s go go' k =
+      let spot : Spot = record { depth = 0; line = line } in
+      let next = λ (env : Env) (go : State → Ran) (value : Value) (end : State). unless_idle env spot end go in
+      charges_keep two (pair_sizes locals) (two.has.followed _ _ (next (low two) go) (next (high two) go') (two.has.less le (runs_found_keep two params f g names h locals p line [] (λ x. tt) spot st s)) (λ l v t.
+      cond_keeps two l.state.moved (k l.state t) (fails_keep two NoSleep spot l.state t)))
+
+  kept_turn_keeps : (kept : Option (BlockRef × Pairs)) (line j : ℕ) → (two.e.L → IsBodyWithin kept) → j ≤ two.n - 1 → (st : State) → Stays st → (go go' : State → Ran) → ((st : State) → Stays st → two.R j st (go st) (go' st)) →
+      two.R j st (turn_of (found_at (low two) line kept) (low two) st go) (turn_of (found_at (high two) line kept) (high two) st go')
+  kept_turn_keeps None line j p le st s go go' k = ends_keep two Stopped st s
+  kept_turn_keeps (Some kept) line j p le st s go go' k = turn_keeps (two.body kept.0) (two.body' kept.0) (two.bodies kept.0) line kept.1 p j le st s go go' k
+
+  answer_turn_keeps : (answer : Answer) (j : ℕ) → (two.e.L → IsAnswerWithin answer) → j ≤ two.n - 1 → (st : State) → Stays st → (go go' : State → Ran) → ((st : State) → Stays st → two.R j st (go st) (go' st)) →
+      two.R j st (turn_of (body_found (low two) answer) (low two) st go) (turn_of (body_found (high two) answer) (high two) st go')
+  answer_turn_keeps Nothing j a le st s go go' k = ends_keep two Stopped st s
+  answer_turn_keeps (Found event) j a le st s go go' k = kept_turn_keeps event.body event.line j (λ x. (a x).body) le st s go go' k
+
+  live_turns_keep : (j turns turns' : ℕ) → j ≤ turns → turns ≤ turns' → j ≤ two.n → (name : List ℕ) → (two.e.L → IsTrue (is_symbol_name name)) → (st : State) → Stays st → two.R j st (live_turns turns name (low two) st) (live_turns turns' name (high two) st)
+  live_turns_keep j zero turns' p q r name symbol st s = two.has.less p (two.has.bound st _)
+  live_turns_keep j (suc u) zero p q r name symbol st s = absurd (omega arith)
+  live_turns_keep j (suc u) (suc u') p q r name symbol st s =
+      let go = λ (env : Env) (u : ℕ) (answer : Answer) (st : State). turn_of (body_found env answer) env st (live_turns u name env) in
+      let le : j - 1 ≤ two.n - 1 = omega arith in
+      let few : j - 1 ≤ u = omega arith in
+      let fewer : u ≤ u' = omega arith in
+      let few' : j - 1 ≤ two.n = omega arith in
+      let begun = turn_begun st in
+      let read = acted begun in
+      let path = codes "live_loop" ∷ name ∷ [] in
+      two.has.less (omega arith) (two.has.spent {n = j - 1} 1 (omega arith) (two.has.alike {other = begun} (like _ _ _ _ _)
+      (emit_keeps two (cue_event (place_in two.e.start begun) path (Ring []))
+      (turn_told two.e.L name (place_in two.e.start begun) symbol (λ x. (s x).fraction)) s
+      (two.has.less (omega arith) (reads_keep two {n = j - 1} (literal_of (inner_of BodyPath name)) read (go (low two) u) (go (high two) u') (λ x. inr (record { path = inner_of BodyPath name; inner = inner_path BodyPath name (symbol x); whole = refl })) s (λ answer a.
+      answer_turn_keeps answer (j - 1) a le (answered_state read) s (live_turns u name (low two)) (live_turns u' name (high two)) (λ st s. live_turns_keep (j - 1) u u' few fewer few' name symbol st s)))))))
+
+  first_block_keeps : (o o' : Option Body) → BodyGrows two.R two.e.L two.n o o' → (st : State) → Stays st → two.R two.n st (first_block o (low two) st) (first_block o' (high two) st)
+  first_block_keeps _ _ neither st s = ends_keep two Done st s
+  first_block_keeps _ _ (both params f g names h) st s =
+      let next = λ (env : Env) (value : Value) (end : State). ends Done env end in
+      let inside = with_locals (st.locals ++ params_with params []) st in
+      two.has.followed _ _ (next (low two)) (next (high two))
+      (two.has.alike {other = inside} (like _ _ _ _ _) (h first_spot inside (λ x. with_pairs _ (s x) (pairs_append st.locals _ (s x).pairs (params_within params [] (names x) tt)))))
+      (λ l v t. ends_keep two Done l.state t)
+
+  waits_first_keeps : (wait : Option (List Segment)) → (two.e.L → IsWaitWithin wait) → (st : State) → Stays st → (go go' : State → Ran) → ((st : State) → Stays st → two.R two.n st (go st) (go' st)) → two.R two.n st (waits_first wait (low two) st go) (waits_first wait (high two) st go')
+  waits_first_keeps None w st s go go' h = h st s
+  waits_first_keeps (Some pattern) w st s go go' h =
+      let next = λ (go : State → Ran) (value : Value) (st : State). go st in
+      two.has.followed _ _ (next go) (next go') (two.has.synced _ two.text two.turns two.turns' two.body two.body' pattern st w s) (λ l v t. h l.state t)
+
+  by_role_keeps : (role : Role) → (two.e.L → IsRoleWithin role) → BodyGrows two.R two.e.L two.n (two.body two.e.start.block) (two.body' two.e.start.block) → (st : State) → Stays st → two.R two.n st (by_role role (low two) st) (by_role role (high two) st)
+  by_role_keeps Plain r h st s = first_block_keeps _ _ h st s
+  by_role_keeps (Named name) r h st s = first_block_keeps _ _ h st s
+  by_role_keeps (Looped name wait) r h st s =
+      let le : two.n ≤ two.n = omega arith in
+      waits_first_keeps wait (λ x. (r x).1) st s (live_turns two.turns name (low two)) (live_turns two.turns' name (high two)) (λ st s. live_turns_keep two.n two.turns two.turns' two.enough two.more le name (λ x. (r x).0) st s)
+
+module _ (R : ℕ → State → Ran → Ran → Type 0) (e : Subject) (has : Closure R e) (checked : e.L → AreChecked e.texts) where
+  body_less : {n m : ℕ} (o o' : Option Body) → m ≤ n → BodyGrows R e.L n o o' → BodyGrows R e.L m o o'
+  body_less _ _ le neither = neither
+  body_less _ _ le (both params f g names h) = both params f g names (λ at st s. has.less le (h at st s))
+
+  body_by_grows : (n : ℕ) (ref : BlockRef) (f g : BlockMeaning → Evaluation) (block : Option Block) → block ≡ block_of e.texts ref → ((b : Block) → (e.L → IsFitBlock e.texts ref.text b) → SpotGrows R e.L n (f (block_meaning b)) (g (block_meaning b))) →
+      BodyGrows R e.L n (body_by (λ block. record { params = block.params; run = f block }) block) (body_by (λ block. record { params = block.params; run = g block }) block)
+  body_by_grows n ref f g None is h = neither
+  body_by_grows n ref f g (Some block) is h =
+      let fit : e.L → IsFitBlock e.texts ref.text block = λ x. blocks_fit e.texts (checked x) ref block (sym is) in
+      both (block_meaning block).params (f (block_meaning block)) (g (block_meaning block)) (λ x. names_of e.texts ref.text block (fit x)) (h block fit)
+
+  abbrev run_in : List Answer → ℕ → ℕ → BlockMeaning → Evaluation
+  run_in answers text n block = block.run (env_of e.start text answers (suc n) (called e.texts e.start answers n))
+
+  called_grows : (n m : ℕ) → n ≤ m → (ref : BlockRef) → BodyGrows R e.L n (called e.texts e.start e.answers n ref) (called e.texts e.start e.answers' m ref)
+  called_grows zero zero le ref = body_by_grows 0 ref (λ block at st. halts) (λ block at st. halts) (block_of e.texts ref) refl (λ block fit at st s. has.bound st _)
+  called_grows zero (suc m) le ref = body_by_grows 0 ref (λ block at st. halts) (run_in e.answers' ref.text m) (block_of e.texts ref) refl (λ block fit at st s. has.bound st _)
+  called_grows (suc n) zero le ref = absurd (omega arith)
+  called_grows (suc n) (suc m) le ref =
+      let below : n ≤ m = omega arith in
+      let whole : suc n ≤ suc n = omega arith in
+      let level : n ≡ suc n - 1 = omega arith in
+      let two : Two = record {
+        R = R;
+        e = e;
+        has = has;
+        text = ref.text;
+        n = suc n;
+        turns = suc n;
+        turns' = suc m;
+        body = called e.texts e.start e.answers n;
+        body' = called e.texts e.start e.answers' m;
+        enough = whole;
+        more = le;
+        bodies = λ ref. subst (λ j. BodyGrows R e.L j (called e.texts e.start e.answers n ref) (called e.texts e.start e.answers' m ref)) level (called_grows n m below ref);
+      } in
+      body_by_grows (suc n) ref (run_in e.answers ref.text n) (run_in e.answers' ref.text m) (block_of e.texts ref) refl (λ block fit. (meaning_grows two block fit).grows)
+
+  opening_within : e.L → IsStateWithin (opening e.start)
+  opening_within x = let w = e.within x in record { fraction = w.time; pairs = w.locals; set = w.settings; counters = tt }
+
+  -- what the relation says of a thread
+  pub of_thread : (n m : ℕ) → n ≤ m → R n (opening e.start) (thread e.texts e.start e.answers n) (thread e.texts e.start e.answers' m)
+  unfolding thread
+  of_thread n m le =
+      let whole : n ≤ n = omega arith in
+      let below : n - 1 ≤ n = omega arith in
+      let two : Two = record {
+        R = R;
+        e = e;
+        has = has;
+        text = e.start.block.text;
+        n = n;
+        turns = n;
+        turns' = m;
+        body = called e.texts e.start e.answers n;
+        body' = called e.texts e.start e.answers' m;
+        enough = whole;
+        more = le;
+        bodies = λ ref. body_less _ _ below (called_grows n m le ref);
+      } in
+      by_role_keeps two e.start.role (λ x. (e.within x).role) (called_grows n m le e.start.block) (opening e.start) opening_within

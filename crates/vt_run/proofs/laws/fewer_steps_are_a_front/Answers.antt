@@ -1,5 +1,0 @@
-use Rattle.vt_run.proofs.Prefixes.{prefix_law}
-use Rattle.vt_run.proofs.laws.fewer_steps_are_a_front.Goals as goal
-
-pub returns : goal.returns
-returns c = prefix_law

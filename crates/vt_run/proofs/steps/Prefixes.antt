@@ -1,0 +1,75 @@
+-- The first n steps of a thread are the same under every bound from n on.
+use Rattle.std.proofs.Common.{◌≡◌, ◌≤◌, ℕ, zero, suc, List, [], ◌∷◌, take, Option, Some, None, refl, sym, ap, ◌∙◌, arith}
+use Rattle.std.specs.Prelude.{slice_get}
+use Rattle.vt_path.specs.declared.pattern.Segment.{Segment}
+use Rattle.vt_event.specs.declared.place.Place.{Place}
+use Rattle.vt_event.specs.declared.references.BlockRef.{BlockRef}
+use Rattle.vt_event.specs.Event.{EventView}
+use Rattle.vt_run.specs.declared.action.Action.TheVariants.{Read}
+use Rattle.vt_run.specs.declared.action.Answer.{Answer}
+use Rattle.vt_run.specs.declared.action.Answer.TheVariants.{Nothing, Found}
+use Rattle.vt_run.specs.declared.start.Start.{Start}
+use Rattle.vt_run.specs.declared.state.State.{State}
+use Rattle.vt_run.specs.declared.texts.Texts.{Texts}
+use Rattle.vt_run.specs.Actions.{acted, answered, place_of, takes, takes_answer, waits}
+use Rattle.vt_run.specs.Environment.{Body}
+use Rattle.vt_run.specs.Evaluation.{Ran, does}
+use Rattle.vt_run.specs.Threads.{acts, env_of, thread}
+use Rattle.vt_run.proofs.growth.Closures.{Closure, Subject, answered_state}
+use Rattle.vt_run.proofs.growth.Growth.{Grows, same, less, step_grows, halts_grow, after_grows, prefix_same}
+use Rattle.vt_run.proofs.growth.ThreadGrowth.{of_thread}
+use Rattle.vt_run.specs.laws.StepLaws.{PrefixLaw}
+
+-- an evaluation of which nothing is known, with two lists of answers
+abbrev pub evaluation : Texts → Start → List Answer → List Answer → Subject
+evaluation texts start answers answers' = record { L = ⊥; texts = texts; start = start; answers = answers; answers' = answers'; within = λ l. absurd l }
+
+-- a read, where the bound grows
+asked_on : (n : ℕ) (place : Place) (pattern : List Segment) (answer : Option Answer) (st : State) (go go' : Answer → State → Ran) →
+    ((answer : Answer) → Grows n (go answer (answered_state st)) (go' answer (answered_state st))) →
+    Grows (suc n) (does 1 (Read place pattern) (answered answer (acted st) go)) (does 1 (Read place pattern) (answered answer (acted st) go'))
+asked_on n place pattern None st go go' h = same refl
+asked_on n place pattern (Some answer) st go go' h = step_grows _ (h answer)
+
+-- what is taken does not see the answers, the bound or the blocks
+module _ (start : Start) (answers answers' : List Answer) (text turns turns' : ℕ) (body body' : BlockRef → Option Body) where
+  takes_same : (path : Option (List (List ℕ))) (event : EventView) (st : State) → takes path event (env_of start text answers turns body) st ≡ takes path event (env_of start text answers' turns' body') st
+  takes_same None event st = refl
+  takes_same (Some path) event st = refl
+
+  pub takes_answer_same : (answer : Answer) (st : State) → takes_answer (env_of start text answers turns body) answer st ≡ takes_answer (env_of start text answers' turns' body') answer st
+  takes_answer_same Nothing st = refl
+  takes_answer_same (Found event) st = takes_same event.path event st
+
+growth : (texts : Texts) (start : Start) (answers : List Answer) → Closure (λ n st a b. Grows n a b) (evaluation texts start answers answers)
+growth texts start answers = record {
+  less = λ {n} {m} {st} {a} {b} le h. less le h;
+  alike = λ {n} {st} {other} {a} {b} is h. h;
+  given = λ n value st v s. same refl;
+  bound = λ st b. halts_grow b;
+  spent = λ {n} {st} {a} {b} cost le h. step_grows _ h;
+  emitted = λ {n} {st} {a} {b} event told s h. step_grows _ h;
+  effected = λ {n} {st} {a} {b} name options named within s h. step_grows _ h;
+  ended = λ n st reason s. same refl;
+  followed = λ {n} {st} a b k k' h f. after_grows a b k k' h (λ l. f l (λ x. absurd x) (λ x. absurd x));
+  asked = λ n text turns turns' body body' pattern st go go' p s h. asked_on n (place_of (env_of start text answers turns body) st) pattern (slice_get answers st.used) st go go' (λ answer. h answer (λ x. absurd x));
+  synced = λ n text turns turns' body body' pattern st p s.
+      same (ap (λ (go : Answer → State → Ran). waits pattern (env_of start text answers turns body) st go) (λ i answer st. takes_answer_same start answers answers text turns turns' body body' answer st i));
+  rested = λ n text turns turns' body body' seconds st ok r s. same refl;
+  spawned = λ n text turns turns' body body' role block st nested r b s. same refl;
+}
+
+-- the first n steps under any bound from n on
+pub acts_stable : (texts : Texts) (start : Start) (answers : List Answer) (n m : ℕ) → n ≤ m → acts texts start answers n ≡ take n (thread texts start answers m).steps
+unfolding acts
+acts_stable texts start answers n m le = prefix_same (of_thread (λ n st a b. Grows n a b) (evaluation texts start answers answers) (growth texts start answers) (λ x. absurd x) n m le)
+
+take-take : {A : Type 0} (n m : ℕ) (xs : List A) → n ≤ m → take n (take m xs) ≡ take n xs
+take-take zero m xs le = refl
+take-take (suc n) zero xs le = absurd (omega arith)
+take-take (suc n) (suc m) [] le = refl
+take-take (suc n) (suc m) (x ∷ xs) le = let below : n ≤ m = omega arith in ap (λ t. x ∷ t) (take-take n m xs below)
+
+pub prefix_law : PrefixLaw
+unfolding acts
+prefix_law texts start answers n m le = acts_stable texts start answers n m le ∙ sym (take-take n m (thread texts start answers m).steps le)

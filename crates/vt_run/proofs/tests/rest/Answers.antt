@@ -1,6 +1,0 @@
-use Rattle.std.proofs.Common.{sym, ◌∙◌}
-use Rattle.vt_run.proofs.Fitting.{fits_where_fitted}
-use Rattle.vt_run.proofs.tests.rest.Goals as goal
-
-pub returns-in-Ok : goal.returns-in-Ok
-returns-in-Ok c = fits_where_fitted _ _ (sym c.add.ensures ∙ c.in-Ok.is)

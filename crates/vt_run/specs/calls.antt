@@ -1,0 +1,13 @@
+-- What each call of the language does, family by family.
+pub mod Arguments
+pub mod Deeds
+pub mod EffectTable
+pub mod FunctionCalls
+pub mod LiveLoops
+pub mod MessageCalls
+pub mod PlayCalls
+pub mod SettingCalls
+pub mod ThreadCalls
+pub mod TickCalls
+pub mod TimeCalls
+pub mod TurnCalls
