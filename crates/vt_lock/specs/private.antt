@@ -1,0 +1,2 @@
+-- What only the lock's own steps and private functions cite.
+pub mod StepsTell
