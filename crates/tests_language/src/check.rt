@@ -14,6 +14,7 @@ define :f do |a, b|; puts a; end => 0() 1(a b)
 loop do; 3.times do |i|; sleep 1; end; end; x = 2 => 0() 1() 2(i)
 [1].map { |x| x }.each { |y| play y } => 0() 1(x) 2(y)
 if x; loop do; sleep 1; end; else; in_thread do; end; end => 0() 1() 2()
+live_loop :a, init: 1 do |n|; at n do |t|; play t; end; density 2 do |i|; sleep i; end; end => 0() 1(n) 2(t) 3(i)
 x = 1; 1.foo => line 1: method";
 
 /// The tree of a text, checked.

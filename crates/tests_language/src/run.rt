@@ -9,8 +9,8 @@ use vt_event::{BlockRef, FxId, Locals, Options, Place, ThreadId};
 use vt_frac::{Frac, Name};
 use vt_path::parse_pattern;
 use vt_run::{
-    Action, Actions, EndReason, Recorder, RenderOptions, Role, Settings, Start, Stop, Tempo, Texts,
-    Ticks, Verdict,
+    Action, Actions, Delay, EndReason, Recorder, RenderOptions, Role, Settings, Start, Stop, Tempo,
+    Texts, Ticks, Verdict,
 };
 use vt_value::{FaultKind, Integer, Symbol, Value};
 
@@ -167,6 +167,7 @@ fn start(alloc: Global) -> Result<Start, Fail> {
         role: Role::Looped {
             name: symbol(alloc, b"drums")?,
             wait: Some(parse_pattern(alloc, b"/cue/*")?),
+            init: Value::Bool(true),
         },
         until: Frac::new(60, 1)?,
     })
@@ -179,6 +180,31 @@ fn a_start_is_copied_whole(rt: HostRuntime) -> Result<(), Fail> {
     assert_eq!(rt; copied.settings.bpm.get(), Frac::new(97, 2)?);
     assert!(rt; matches!(copied.settings.fx, Some(FxId { number: 3, .. })));
     assert!(rt; matches!(copied.role, Role::Looped { wait: Some(_), .. }));
+    Ok(())
+}
+
+/// A thread of `at` that rests for so many quarters of a second.
+fn timed(quarters: i64) -> Result<Role, Fail> {
+    Ok(Role::Timed {
+        rest: Delay::new(Frac::new(quarters, 4)?).ok_or("below 0")?,
+        given: Value::Nil,
+        line: 7,
+    })
+}
+
+/// The seconds for which a thread of `at` rests.
+fn rest_of(role: &Role) -> Option<Frac> {
+    match role {
+        Role::Timed { rest, .. } => Some(rest.get()),
+        _ => None,
+    }
+}
+
+#[test]
+fn a_thread_of_at_rests_for_no_time_below_0(rt: HostRuntime) -> Result<(), Fail> {
+    assert!(rt; Delay::new(Frac::new(-1, 4)?).is_none());
+    let copied = timed(0)?.copy(rt.alloc())?;
+    assert_eq!(rt; rest_of(&copied), Some(Frac::new(0, 1)?));
     Ok(())
 }
 

@@ -1,12 +1,14 @@
-//! Places in their order, and the fields that an event of each kind has.
+//! Places in their order, the fields that an event of each kind has, and inputs.
 
 use crate::text::events;
 use std::alloc::Global;
 use std::collections::BTreeMap;
 use std::test::Fail;
-use vt_event::{Event, Kind, Place, ThreadId};
-use vt_frac::Frac;
-use vt_value::Value;
+use vt_event::{Event, Inputs, Kind, Livings, Place, Score, ThreadId};
+use vt_frac::{Frac, is_symbol_name};
+use vt_path::{InnerKind, inner, parse_path};
+use vt_text::score_text;
+use vt_value::{Integer, Items, Value};
 
 /// Places in their order, each by its time, micro step, thread and step.
 const PLACES: &str = "0/1 0 0 1\n\
@@ -205,5 +207,88 @@ const FIELDS: &str = "play name value\n\
 fn each_kind_has_its_fields_and_no_others(rt: HostRuntime) -> Result<(), Fail> {
     let fields = fields(rt.alloc())?;
     assert_eq!(rt; fields.as_str(), FIELDS);
+    Ok(())
+}
+
+/// The place of the input with this number, at a whole time.
+fn input_place(alloc: Global, time: i64, number: u32) -> Result<Place, Fail> {
+    Ok(Place {
+        time: Frac::new(time, 1)?,
+        micro: 0,
+        thread: ThreadId::of_inputs(alloc),
+        step: number,
+    })
+}
+
+fn whole(number: i64) -> Result<Value, Fail> {
+    Ok(Value::Whole(Integer::new(number).ok_or("too large")?))
+}
+
+fn given_cue(alloc: Global) -> Result<Event, Fail> {
+    let mut values = Items::new(alloc);
+    values.push(whole(64)?)?;
+    let at = input_place(alloc, 1, 1)?;
+    let path = parse_path(alloc, b"/pad/x")?;
+    Ok(Event::of_cue(alloc, at, path, Value::Ring(values))?)
+}
+
+fn given_set(alloc: Global) -> Result<Event, Fail> {
+    let at = input_place(alloc, 1, 2)?;
+    let path = parse_path(alloc, b"/set/x")?;
+    Ok(Event::of_set(alloc, at, path, whole(5)?)?)
+}
+
+/// A stop of the live loop of this name.
+fn given_stop(alloc: Global, name: &[u8]) -> Result<Event, Fail> {
+    if is_symbol_name(name) {
+        let at = input_place(alloc, 2, 3)?;
+        let path = inner(alloc, InnerKind::Stop, name)?;
+        Ok(Event::of_ended(alloc, at, path)?)
+    } else {
+        Err(Fail::from("no name of a symbol"))
+    }
+}
+
+/// An input of each sort.
+fn inputs(alloc: Global) -> Result<Inputs, Fail> {
+    let mut inputs = Inputs::new(alloc);
+    inputs.push(given_cue(alloc)?)?;
+    inputs.push(given_set(alloc)?)?;
+    inputs.push(given_stop(alloc, b"a")?)?;
+    Ok(inputs)
+}
+
+/// The text of a score in which the inputs alone happened.
+fn score_of_inputs(alloc: Global) -> Result<Vec<u8>, Fail> {
+    let score = Score {
+        events: inputs(alloc)?,
+        living: Livings::new(alloc),
+    };
+    Ok(score_text(alloc, &score)?)
+}
+
+#[test]
+fn a_score_shows_given_cues_and_sets_and_no_stop(rt: HostRuntime) -> Result<(), Fail> {
+    let text = score_of_inputs(rt.alloc())?;
+    let shown = "1 0 cue /pad/x 64\n1 0 set /set/x 5\nend 2\n";
+    assert_eq!(rt; text.as_slice(), shown.as_bytes());
+    Ok(())
+}
+
+/// The kind of a stop, its fields, and its path as it is written.
+fn stop_text(alloc: Global) -> Result<String, Fail> {
+    let stop = given_stop(alloc, b"a")?;
+    let mut path = Vec::new(alloc);
+    stop.path().ok_or("no path")?.write(alloc, &mut path)?;
+    let mut text = String::new(alloc);
+    add_copied(alloc, &mut text, &stop)?;
+    text.push_str(String::from_utf8(path)?.as_str())?;
+    Ok(text)
+}
+
+#[test]
+fn a_stop_is_an_end_at_its_own_path(rt: HostRuntime) -> Result<(), Fail> {
+    let text = stop_text(rt.alloc())?;
+    assert_eq!(rt; text.as_str(), "ended path\n/!stop/a");
     Ok(())
 }

@@ -250,7 +250,12 @@ fn check_inner<X: AllocGlobal + Abort>(rt: &X, kind: InnerKind, text: &str) -> R
     assert!(rt; !matches(&own, &inner_of(alloc, kind, b"y")?));
     assert!(rt; !matches(&parse_pattern(alloc, b"/**")?, &path));
     assert!(rt; !matches(&parse_pattern(alloc, b"/*/x")?, &path));
-    assert!(rt; !matches(&parse_pattern(alloc, b"/?body/x")?, &path));
+    assert!(rt;
+        !matches(
+            &parse_pattern(alloc, b"/?{body,def,name,loop,stop}/x")?,
+            &path
+        )
+    );
     Ok(())
 }
 
@@ -259,7 +264,8 @@ fn inner_paths_have_their_own_pattern_alone(rt: HostRuntime) -> Result<(), Fail>
     check_inner(&rt, InnerKind::Body, "/!body/x")?;
     check_inner(&rt, InnerKind::Def, "/!def/x")?;
     check_inner(&rt, InnerKind::Named, "/!name/x")?;
-    check_inner(&rt, InnerKind::Looped, "/!loop/x")
+    check_inner(&rt, InnerKind::Looped, "/!loop/x")?;
+    check_inner(&rt, InnerKind::Stop, "/!stop/x")
 }
 
 const STOOD_FOR: &str = "\

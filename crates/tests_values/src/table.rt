@@ -39,9 +39,11 @@ fn call_text(alloc: Global, name: &str) -> Result<String, Fail> {
 }
 
 const CALLS: &str = "\
+at: 1 to 2, a block, alone, effects
 cue: 1 to 255, no block, alone, effects
 current_bpm: 0 to 0, no block, alone, effects
 define: 1 to 1, a block, alone, effects
+density: 1 to 1, a block, alone, effects
 each: 1 to 1, a block, by a dot, effects
 get: 1 to 1, no block, alone, effects
 in_thread: 0 to 0, a block, alone, effects
@@ -50,6 +52,8 @@ look: 0 to 2, no block, by a dot, effects
 loop: 0 to 0, a block, alone, effects
 map: 1 to 1, a block, by a dot, effects
 play: 1 to 1, no block, alone, effects
+play_pattern: 1 to 1, no block, alone, effects
+play_pattern_timed: 2 to 2, no block, alone, effects
 print: 0 to 16, no block, alone, effects
 puts: 0 to 16, no block, alone, effects
 rt: 1 to 1, no block, alone, effects
@@ -68,7 +72,9 @@ with_synth: 1 to 1, a block, alone, effects
 abs: 1 to 1, no block, by a dot
 bools: 0 to 255, no block, by a dot
 chord: 2 to 2, no block, by a dot
+chord_invert: 2 to 2, no block, by a dot
 choose: 1 to 1, no block, by a dot
+degree: 3 to 3, no block, by a dot
 dice: 0 to 1, no block, by a dot
 drop: 2 to 2, no block, by a dot
 drop_last: 2 to 2, no block, by a dot
@@ -84,7 +90,6 @@ rotate: 1 to 2, no block, by a dot
 rrand_i: 2 to 2, no block, by a dot
 shuffle: 1 to 1, no block, by a dot
 : none
-at: none
 Play: none
 plays: none
 pla: none
@@ -189,6 +194,12 @@ harmonic_minor: 2 1 2 2 1 3 1
 minor_pentatonic: 3 2 2 3 2
 chromatic: 1 1 1 1 1 1 1 1 1 1 1 1
 whole_tone: 2 2 2 2 2 2
+melodic_minor: 2 1 2 2 2 2 1
+hungarian_minor: 2 1 3 1 1 3 1
+blues_major: 2 1 1 3 2 3
+blues_minor: 3 2 1 1 3 2
+augmented: 3 1 3 1 3 1
+diminished: 1 2 1 2 1 2 1 2
 : none
 Major: none
 majo: none
@@ -202,9 +213,15 @@ dom7: 0 4 7 10
 m7: 0 3 7 10
 minor7: 0 3 7 10
 sus4: 0 5 7
+major6: 0 4 7 9
+minor6: 0 3 7 9
+major9: 0 4 7 11 14
+minor9: 0 3 7 10 14
+dom9: 0 4 7 10 14
+add9: 0 4 7 14
 : none
 Major: none
-major9: none
+m9: none
 ";
 
 #[test]

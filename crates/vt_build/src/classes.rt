@@ -1,4 +1,5 @@
-//! The classes of terminals that the parser asks for, and with which terminals a rule may begin.
+//! The classes of tokens that the parser asks for, and with which terminals a rule may begin.
+
 ghost use Rattle.std.specs.Prelude.{◌≡◌, nat_lt};
 ghost use Rattle.vt_build.specs.private.Classes.{class_terminals};
 ghost use Rattle.vt_grammar.specs.Grammar.{is_literal, is_paren_open, is_list_open, is_sign, is_term_op, is_sum_op, is_comp_op, is_conj_op, is_disj_op, is_expr_op, is_set, is_condition, leads};
@@ -6,38 +7,50 @@ ghost use Rattle.vt_grammar.specs.private.Sets.{ExprStarts, ArgStarts, StmtStart
 
 use vt_grammar::Terminal;
 
-/// A class of terminals.
+/// A class of tokens: those of which a rule of the grammar takes any one at the same spot, such as the operators of one level.
 #[derive(Clone, Copy)]
 pub enum Class {
+    /// A number, a text, a symbol, `nil`, `true` or `false`.
     Literal,
-    ParenOpen,
+    /// `(`, close to what stands before it or not.
+    ParenthesisOpen,
+    /// `[`, close to what stands before it or not.
     ListOpen,
+    /// `-` or `!` before a value.
     Sign,
-    TermOp,
-    SumOp,
-    CompOp,
-    ConjOp,
-    DisjOp,
-    ExprOp,
+    /// `*`, `/` or `%`.
+    TermOperator,
+    /// `+` or `-`.
+    SumOperator,
+    /// `==`, `!=`, `<`, `<=`, `>` or `>=`.
+    ComparisonOperator,
+    /// `&&`.
+    ConjunctionOperator,
+    /// `||`.
+    DisjunctionOperator,
+    /// `and` or `or`.
+    ExpressionOperator,
+    /// `=`, `+=`, `-=` or `*=`.
     Set,
+    /// `if` or `unless`.
     Condition,
 }
 
-/// Whether the terminal is in the class.
+/// Whether a token with this terminal is in the class.
 pub fn is_of(class: Class, terminal: Terminal) -> bool
     ensures { result ≡ class_terminals class terminal }
 {
     match class {
         Class::Literal => is_literal(terminal),
-        Class::ParenOpen => is_paren_open(terminal),
+        Class::ParenthesisOpen => is_paren_open(terminal),
         Class::ListOpen => is_list_open(terminal),
         Class::Sign => is_sign(terminal),
-        Class::TermOp => is_term_op(terminal),
-        Class::SumOp => is_sum_op(terminal),
-        Class::CompOp => is_comp_op(terminal),
-        Class::ConjOp => is_conj_op(terminal),
-        Class::DisjOp => is_disj_op(terminal),
-        Class::ExprOp => is_expr_op(terminal),
+        Class::TermOperator => is_term_op(terminal),
+        Class::SumOperator => is_sum_op(terminal),
+        Class::ComparisonOperator => is_comp_op(terminal),
+        Class::ConjunctionOperator => is_conj_op(terminal),
+        Class::DisjunctionOperator => is_disj_op(terminal),
+        Class::ExpressionOperator => is_expr_op(terminal),
         Class::Set => is_set(terminal),
         Class::Condition => is_condition(terminal),
     }

@@ -4,7 +4,7 @@ use Rattle.std.specs.List.{All}
 use Rattle.std.proofs.lemmas.List.Elements.{All-cons, All-head, All-nil, All-tail}
 use Rattle.std.proofs.lemmas.Bool.{eq-eqb, ne_eqb}
 use Rattle.vt_tree.specs.declared.statement.Block.{Block, out-Block}
-use Rattle.vt_tree.specs.Parts.{Part, called, opened, Place, Walk, Site, blocks_of, each, in_block, sites_of}
+use Rattle.vt_tree.specs.Parts.{Part, called, opened, Context, Walk, Site, blocks_of, each, in_block, sites_of}
 use Rattle.vt_check.specs.private.Finding.{block_with, Finds}
 use Rattle.vt_check.specs.Verdict.{IsSound}
 use Rattle.vt_check.proofs.JudgingLemmas.{drop_item, drop_past, sites_of-append}
@@ -43,11 +43,11 @@ with_none n [] b e = refl
 with_none n (k ∷ a) b e = cond_none (nat_eq (out-Block k).number n) k (block_with n a) (block_with n (a ++ b)) (block_with n b) (with_none n a b) e
 
 -- the same parts
-pub finds_by : {n : ℕ} {walk : Walk} {o : Option Block} (walk' : Walk) → ((p : Place) → walk p ≡ walk' p) → Finds n walk' o → Finds n walk o
+pub finds_by : {n : ℕ} {walk : Walk} {o : Option Block} (walk' : Walk) → ((p : Context) → walk p ≡ walk' p) → Finds n walk' o → Finds n walk o
 finds_by {n} walk' e h = record { by = λ p. h.by p ∙ ap (λ parts. block_with n (blocks_of parts)) (sym (e p)); sound = λ p a. h.sound p (subst (λ parts. All IsSound (sites_of parts)) (e p) a) }
 
--- the same at other places
-pub finds_at : {n : ℕ} {walk : Walk} {o : Option Block} (move : Place → Place) → Finds n walk o → Finds n (λ p. walk (move p)) o
+-- the same in other contexts
+pub finds_at : {n : ℕ} {walk : Walk} {o : Option Block} (move : Context → Context) → Finds n walk o → Finds n (λ p. walk (move p)) o
 finds_at move h = record { by = λ p. h.by (move p); sound = λ p a. h.sound (move p) a }
 
 pub finds_nothing : (n : ℕ) → Finds n (λ p. []) None
@@ -95,14 +95,14 @@ left_none n f xs i left le = left.by None (finds_by (λ p. []) (λ p. ap (λ ys.
 pub finds_here : (n : ℕ) (k : Block) → (out-Block k).number ≡ n → Finds n (λ p. opened k ∷ in_block k p) (Some k)
 finds_here n k e = record {
   by = λ p. sym (ap (λ t. cond t (Some k) (block_with n (blocks_of (in_block k p)))) (eq-eqb (out-Block k).number n e));
-  sound = λ p a. record { place = p; sound = a };
+  sound = λ p a. record { context = p; sound = a };
 }
 
 pub finds_other : {n : ℕ} {k : Block} {inner : Walk} {o : Option Block} → ((out-Block k).number ≡ n → ⊥) → Finds n inner o → Finds n (λ p. opened k ∷ inner p) o
 finds_other {n} {k} {inner} {o} e h = record { by = λ p. h.by p ∙ sym (ap (λ t. cond t (Some k) (block_with n (blocks_of (inner p)))) (ne_eqb (out-Block k).number n e)); sound = λ p a. h.sound p a }
 
 -- a call is no block
-pub finds_called : {n : ℕ} {inner : Walk} {o : Option Block} (site : Place → Site) → Finds n inner o → Finds n (λ p. called (site p) ∷ inner p) o
+pub finds_called : {n : ℕ} {inner : Walk} {o : Option Block} (site : Context → Site) → Finds n inner o → Finds n (λ p. called (site p) ∷ inner p) o
 finds_called {inner = inner} site h = record { by = λ p. h.by p; sound = λ p a. h.sound p (All-tail IsSound (site p) (sites_of (inner p)) a) }
 
 -- in an equal thing

@@ -89,7 +89,7 @@ AreJudged calls = All IsSound calls ⊎ ((line : ℕ) × (kind : CheckKind) × F
 
 after_call : (call : Site) (calls : List Site) → IsSound call ⊎ ((kind : CheckKind) × IsFaultOf call kind) → AreJudged calls → AreJudged (call ∷ calls)
 after_call call calls (inr (kind, fault)) j = inr (
-  call.place.line,
+  call.context.line,
   kind,
   record {
     before = [];

@@ -51,7 +51,7 @@ same_call (x ∷ before) (y ∷ before') call call' after after' kind kind' e h 
 one_fault_of : (calls : List Site) (line line' : ℕ) (kind kind' : CheckKind) → FirstFault calls line kind → FirstFault calls line' kind' → (line ≡ line') × (kind ≡ kind')
 one_fault_of calls line line' kind kind' f g =
     let same : f.call ≡ g.call = same_call f.before g.before f.call g.call f.after g.after kind kind' (sym f.whole ∙ g.whole) f.sound g.sound f.fault g.fault in
-    (f.here ∙ ap (λ (s : Site). s.place.line) same ∙ sym g.here, same_fault g.call kind kind' (subst (λ c. IsFaultOf c kind) same f.fault) g.fault)
+    (f.here ∙ ap (λ (s : Site). s.context.line) same ∙ sym g.here, same_fault g.call kind kind' (subst (λ c. IsFaultOf c kind) same f.fault) g.fault)
 
 pub never_both : NeverBoth
 unfolding IsAllowed CheckRefuses

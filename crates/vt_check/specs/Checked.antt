@@ -2,7 +2,7 @@
 use Rattle.std.specs.Prelude.{ℕ, Option, slice_get}
 use Rattle.std.specs.List.{All}
 use Rattle.vt_tree.specs.declared.statement.Block.{Block}
-use Rattle.vt_tree.specs.Parts.{Place, blocks, in_block, sites_of}
+use Rattle.vt_tree.specs.Parts.{Context, blocks, in_block, sites_of}
 use Rattle.vt_tree.specs.WellFormed.{IsWellFormed}
 use Rattle.vt_check.specs.declared.fault.CheckFault.{CheckFault}
 use Rattle.vt_check.specs.declared.fault.CheckFault.TheVariants.{At, NoMemory}
@@ -24,5 +24,5 @@ block_at tree number = slice_get (blocks tree) number
 
 -- no call in the block has a fault, where the block stands
 pub record IsSoundBlock (block : Block) : Type 0 where
-  pub place : Place
-  pub sound : All IsSound (sites_of (in_block block place))
+  pub context : Context
+  pub sound : All IsSound (sites_of (in_block block context))

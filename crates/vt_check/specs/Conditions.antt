@@ -16,7 +16,7 @@ use Rattle.vt_check.specs.Written.{is_call, is_among, row_of, args_of, options_o
 
 -- 1. `define` is no statement of the text itself. With a condition after it, it is one; in a branch or after a dot it is none.
 unfoldable pub is_misplaced : Site → Bool
-is_misplaced s = is_call (codes "define") s && not s.place.outermost
+is_misplaced s = is_call (codes "define") s && not s.context.outermost
 
 abbrev pub is_other_than_symbol : Option Expr → Bool
 is_other_than_symbol None = false
@@ -51,11 +51,11 @@ has_no_dot (Some row) = not row.dot
 -- 4. After a dot a name that is in no table, or that the table has without a dot; or `times`, `each` or `map` with
 -- arguments or parentheses and without a dot
 unfoldable pub is_no_method : Site → Bool
-is_no_method s = cond s.place.dotted (has_no_dot (row_of s)) (is_among methods s && has_arguments s)
+is_no_method s = cond s.context.dotted (has_no_dot (row_of s)) (is_among methods s && has_arguments s)
 
 -- the greatest count of positional arguments: `tick` and `look` have one less without a dot
 abbrev pub most_of : Site → CallRow → ℕ
-most_of s row = cond (not s.place.dotted && is_among (codes "tick" ∷ codes "look" ∷ []) s) 1 row.most
+most_of s row = cond (not s.context.dotted && is_among (codes "tick" ∷ codes "look" ∷ []) s) 1 row.most
 
 -- fewer than the least count, or more than the greatest, where 255 is any number
 abbrev pub is_miscounted_by : Site → Option CallRow → Bool
@@ -68,13 +68,15 @@ is_miscounted s = is_written_out s && is_miscounted_by s (row_of s)
 
 -- the calls that take every option
 abbrev pub open_calls : List (List ℕ)
-open_calls = codes "play" ∷ codes "sample" ∷ codes "synth" ∷ codes "use_synth_defaults" ∷ codes "with_fx" ∷ []
+open_calls =
+    codes "play" ∷ codes "play_pattern" ∷ codes "play_pattern_timed" ∷ codes "sample" ∷ codes "synth" ∷ codes "use_synth_defaults"
+    ∷ codes "with_fx" ∷ []
 
--- the other calls that take an option, each with it
+-- the options that the other calls take, each with its call
 abbrev pub single_options : List (List ℕ × List ℕ)
 single_options =
-    (codes "in_thread", codes "name") ∷ (codes "live_loop", codes "sync") ∷ (codes "range", codes "step") ∷ (codes "line", codes "steps")
-    ∷ (codes "scale", codes "num_octaves") ∷ []
+    (codes "in_thread", codes "name") ∷ (codes "live_loop", codes "sync") ∷ (codes "live_loop", codes "init") ∷ (codes "range", codes "step")
+    ∷ (codes "line", codes "steps") ∷ (codes "scale", codes "num_octaves") ∷ []
 
 -- the call takes this option
 abbrev pub takes_option : Site → List ℕ → Bool
@@ -99,9 +101,13 @@ need_of (Some row) = Some row.block
 unfoldable pub has_wrong_block : Site → Bool
 has_wrong_block s = is_block_wrong (is_some (block_of s)) (is_written_out s) (need_of (row_of s))
 
+-- the calls that give one parameter to their block
+abbrev pub giving_calls : List (List ℕ)
+giving_calls = codes "times" ∷ codes "each" ∷ codes "map" ∷ codes "at" ∷ codes "density" ∷ codes "live_loop" ∷ []
+
 -- how many parameters a call gives to its block at most
 abbrev pub given_by : Site → ℕ
-given_by s = cond (is_call (codes "define") s) 16 (cond (is_among methods s) 1 0)
+given_by s = cond (is_call (codes "define") s) 16 (cond (is_among giving_calls s) 1 0)
 
 abbrev pub has_wrong_params_in : Site → Option Block → Bool
 has_wrong_params_in s None = false

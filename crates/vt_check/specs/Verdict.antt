@@ -49,7 +49,7 @@ pub record FirstFault (calls : List Site) (line : ℕ) (kind : CheckKind) : Type
   pub whole : calls ≡ before ++ call ∷ after
   pub sound : All IsSound before
   pub fault : IsFaultOf call kind
-  pub here : line ≡ call.place.line
+  pub here : line ≡ call.context.line
 
 -- a tree all of whose calls are without a fault
 unfoldable pub IsAllowed : Block → Type 0

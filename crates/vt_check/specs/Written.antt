@@ -56,11 +56,11 @@ has_arguments s = (out-Call s.call).wrapped || not (is_empty (args_of s)) || not
 
 -- it is written with arguments, parentheses or a dot
 abbrev pub is_written_out : Site → Bool
-is_written_out s = has_arguments s || s.place.dotted
+is_written_out s = has_arguments s || s.context.dotted
 
 -- the count of its positional arguments; the receiver of a dot counts as the first
 abbrev pub count_of : Site → ℕ
-count_of s = cond s.place.dotted 1 0 + length (args_of s)
+count_of s = cond s.context.dotted 1 0 + length (args_of s)
 
 -- a layer of an expression
 abbrev pub NodeLayer : Type 0

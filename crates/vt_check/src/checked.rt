@@ -5,9 +5,9 @@ ghost use Rattle.vt_tree.specs.WellFormed.{IsWellFormed};
 ghost use Rattle.vt_check.specs.Checked.{IsCause};
 ghost use Rattle.vt_check.specs.Verdict.{IsAllowed};
 
+use crate::context::Context;
 use crate::fault::CheckFault;
 use crate::find::find_block;
-use crate::place::Place;
 use crate::walk::check_block;
 use std::alloc::Global;
 use std::marker::Model;
@@ -58,6 +58,6 @@ pub fn check(alloc: Global, block: Block) -> Result<Checked, CheckFault>
     ensures allowed { OnOk result (IsAllowed block) }
     ensures refused { IfErr result (IsCause block) }
 {
-    check_block(alloc, &block, Place::of_text())?;
+    check_block(alloc, &block, Context::of_text())?;
     Ok(Checked { tree: block })
 }

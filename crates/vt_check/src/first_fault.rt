@@ -7,9 +7,9 @@ use crate::conditions::{
     has_bad_option, has_wrong_block, has_wrong_params, is_miscounted, is_misnamed, is_misplaced,
     is_no_method, is_taken,
 };
+use crate::context::Context;
 use crate::fault::CheckKind;
 use crate::paths::has_refused_path;
-use crate::place::Place;
 use std::alloc::Global;
 use vt_frac::NoMemory;
 use vt_table::call_of;
@@ -19,36 +19,36 @@ use vt_tree::Call;
 pub(crate) fn fault_of(
     alloc: Global,
     call: &Call,
-    place: Place,
+    context: Context,
 ) -> Result<Option<CheckKind>, NoMemory>
-    ensures { IfOk result (JudgesCall (site_of place call.now)) }
+    ensures { IfOk result (JudgesCall (site_of context call.now)) }
 {
     let row = call_of(call.name.as_bytes());
-    if is_misplaced(call, place) {
+    if is_misplaced(call, context) {
         return Ok(Some(CheckKind::DefinePlace));
     }
-    if is_misnamed(call, place) {
+    if is_misnamed(call, context) {
         return Ok(Some(CheckKind::Name));
     }
-    if is_taken(call, place) {
+    if is_taken(call, context) {
         return Ok(Some(CheckKind::Taken));
     }
-    if is_no_method(call, place, row) {
+    if is_no_method(call, context, row) {
         return Ok(Some(CheckKind::Method));
     }
-    if is_miscounted(call, place, row) {
+    if is_miscounted(call, context, row) {
         return Ok(Some(CheckKind::Count));
     }
-    if has_bad_option(call, place, row) {
+    if has_bad_option(call, context, row) {
         return Ok(Some(CheckKind::Opt));
     }
-    if has_wrong_block(call, place, row) {
+    if has_wrong_block(call, context, row) {
         return Ok(Some(CheckKind::Block));
     }
-    if has_wrong_params(call, place) {
+    if has_wrong_params(call, context) {
         return Ok(Some(CheckKind::Params));
     }
-    if has_refused_path(alloc, call, place)? {
+    if has_refused_path(alloc, call, context)? {
         return Ok(Some(CheckKind::Path));
     }
     Ok(None)

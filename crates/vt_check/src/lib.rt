@@ -3,12 +3,12 @@
 
 mod checked;
 mod conditions;
+mod context;
 mod fault;
 mod find;
 mod first_fault;
 mod laws;
 mod paths;
-mod place;
 mod walk;
 mod written;
 

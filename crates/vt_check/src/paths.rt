@@ -9,7 +9,7 @@ ghost use Rattle.vt_check.specs.Written.{is_among};
 ghost use Rattle.vt_check.specs.Conditions.{begins_with_slash, first_text, HasRefusedOption, HasRefusedPath, IfText, IsRefused, IsRefusedOption};
 ghost use Rattle.vt_check.specs.private.Judging.{site_of};
 
-use crate::place::Place;
+use crate::context::Context;
 use crate::written::{is_named, text_of};
 use std::alloc::Global;
 use vt_frac::{Name, NoMemory, is_symbol_name};
@@ -18,13 +18,17 @@ use vt_tree::{Call, Expr};
 
 /// A literal text that must stand for a path or a pattern is refused.
 #[tactic(auto, unfolding(crate::specs::Conditions::HasRefusedPath))]
-pub(crate) fn has_refused_path(alloc: Global, call: &Call, place: Place) -> Result<bool, NoMemory>
-    ensures { IfOk result (λ refused. IsTrue refused ↔ HasRefusedPath (site_of place call.now)) }
+pub(crate) fn has_refused_path(
+    alloc: Global,
+    call: &Call,
+    context: Context,
+) -> Result<bool, NoMemory>
+    ensures { IfOk result (λ refused. IsTrue refused ↔ HasRefusedPath (site_of context call.now)) }
 {
-    if sends(call, place) {
+    if sends(call, context) {
         return is_refused_path(alloc, first_text(call.args.get(0)));
     }
-    if receives(call, place) {
+    if receives(call, context) {
         return is_refused_pattern(alloc, first_text(call.args.get(0)));
     }
     if is_named(call, b"live_loop") {
@@ -34,15 +38,15 @@ pub(crate) fn has_refused_path(alloc: Global, call: &Call, place: Place) -> Resu
 }
 
 /// `cue` and `set`.
-fn sends(call: &Call, place: Place) -> bool
-    ensures { result ≡ is_among (codes "cue" ∷ codes "set" ∷ []) (site_of place call.now) }
+fn sends(call: &Call, context: Context) -> bool
+    ensures { result ≡ is_among (codes "cue" ∷ codes "set" ∷ []) (site_of context call.now) }
 {
     is_named(call, b"cue") || is_named(call, b"set")
 }
 
 /// `get` and `sync`.
-fn receives(call: &Call, place: Place) -> bool
-    ensures { result ≡ is_among (codes "get" ∷ codes "sync" ∷ []) (site_of place call.now) }
+fn receives(call: &Call, context: Context) -> bool
+    ensures { result ≡ is_among (codes "get" ∷ codes "sync" ∷ []) (site_of context call.now) }
 {
     is_named(call, b"get") || is_named(call, b"sync")
 }

@@ -6,7 +6,7 @@ ghost use Rattle.vt_tree.specs.declared.expression.Call.{out-Call};
 ghost use Rattle.vt_check.specs.Written.{first_of, has_arguments, has_twice, is_among, is_written_out, literal_of, methods, symbol_of, text_of};
 ghost use Rattle.vt_check.specs.private.Judging.{site_of};
 
-use crate::place::Place;
+use crate::context::Context;
 use vt_frac::Name;
 use vt_tree::{Call, Expr, Literal, Node};
 
@@ -18,24 +18,24 @@ pub(crate) fn is_named(call: &Call, name: &[u8]) -> bool
 }
 
 /// `times`, `each` and `map`.
-pub(crate) fn is_method(call: &Call, place: Place) -> bool
-    ensures { result ≡ is_among methods (site_of place call.now) }
+pub(crate) fn is_method(call: &Call, context: Context) -> bool
+    ensures { result ≡ is_among methods (site_of context call.now) }
 {
     is_named(call, b"times") || is_named(call, b"each") || is_named(call, b"map")
 }
 
 /// It is written with arguments, labelled ones too, or with parentheses.
-pub(crate) fn has_arguments(call: &Call, place: Place) -> bool
-    ensures { result ≡ has_arguments (site_of place call.now) }
+pub(crate) fn has_arguments(call: &Call, context: Context) -> bool
+    ensures { result ≡ has_arguments (site_of context call.now) }
 {
     call.wrapped || !call.args.is_empty() || !call.options.is_empty()
 }
 
 /// It is written with arguments, parentheses or a dot.
-pub(crate) fn is_written_out(call: &Call, place: Place) -> bool
-    ensures { result ≡ is_written_out (site_of place call.now) }
+pub(crate) fn is_written_out(call: &Call, context: Context) -> bool
+    ensures { result ≡ is_written_out (site_of context call.now) }
 {
-    has_arguments(call, place) || place.dotted
+    has_arguments(call, context) || context.dotted
 }
 
 /// The literal that an expression is, with or without parentheses round it.

@@ -1,10 +1,11 @@
--- Two texts and two inputs that are orderly.
+-- Two texts and three inputs, one of each sort, that are orderly.
 use Rattle.std.proofs.Common.{◌≡◌, ℕ, ◌≤◌, ◌<◌, ◌+◌, zero, suc, true, false, is_lt, nat_le, ◌&&◌, slice_index_or, List, [], ◌∷◌, Some, None, All, IsSomeAnd, IsTrue, codes, slice_get, refl, sym, ap, ◌∙◌, subst, inl, inr, arith, pos, ◌≤ℤ◌}
 use Rattle.std.proofs.lemmas.List.Elements.{All-cons, All-nil}
 use Rattle.vt_frac.specs.Fraction.{Fraction, whole}
+use Rattle.vt_frac.specs.Names.{is_symbol_name}
 use Rattle.vt_frac.specs.Order.{value_order}
-use Rattle.vt_path.specs.Byte.{IsPathByte}
 use Rattle.vt_path.specs.Path.{IsPath, IsSegment}
+use Rattle.vt_path.proofs.NameLemmas.{symbol_segment}
 use Rattle.vt_value.specs.declared.value.Value as V
 use Rattle.vt_value.specs.declared.value.Value.{Value, out-roll-Value}
 use Rattle.vt_value.specs.declared.value.Value.TheOpen.{Value-F}
@@ -13,31 +14,25 @@ use Rattle.vt_value.specs.Arithmetic.{are_within}
 use Rattle.vt_value.specs.Kinds.{items_of, ring_layer, ring_of, text_bytes}
 use Rattle.vt_value.proofs.Layers.{size-other}
 use Rattle.vt_event.specs.Event.{EventView}
-use Rattle.vt_event.specs.Orderly.{AreOrderlyTimes, IsInput, cue_of_60, is_given}
+use Rattle.vt_event.specs.Orderly.{AreOrderlyTimes, IsInput, cue_of_60, input_place, is_given, set_to_60, stop_of_a}
 
-letter : (b : ℕ) → 97 ≤ b → b ≤ 122 → IsPathByte b
-unfolding IsPathByte
-letter b low high = inr (inr (inl (low, high)))
+cue_name : IsTrue (is_symbol_name (codes "cue"))
+unfolding is_symbol_name
+cue_name = refl
 
-cue_is_a_segment : IsSegment (codes "cue")
-cue_is_a_segment = record {
-  nonempty = omega arith;
-  short = omega arith;
-  bytes = All-cons IsPathByte 99 (117 ∷ 101 ∷ []) (letter 99 (omega arith) (omega arith)) (All-cons IsPathByte 117 (101 ∷ []) (letter 117 (omega arith) (omega arith)) (All-cons IsPathByte 101 [] (letter 101 (omega arith) (omega arith)) (All-nil IsPathByte)));
-}
+set_name : IsTrue (is_symbol_name (codes "set"))
+unfolding is_symbol_name
+set_name = refl
 
-a_is_a_segment : IsSegment (codes "a")
-a_is_a_segment = record {
-  nonempty = omega arith;
-  short = omega arith;
-  bytes = All-cons IsPathByte 97 [] (letter 97 (omega arith) (omega arith)) (All-nil IsPathByte);
-}
+a_name : IsTrue (is_symbol_name (codes "a"))
+unfolding is_symbol_name
+a_name = refl
 
-is_a_path : IsPath (codes "cue" ∷ codes "a" ∷ [])
-is_a_path = record {
+path_of_a : (word : List ℕ) → IsTrue (is_symbol_name word) → IsPath (word ∷ codes "a" ∷ [])
+path_of_a word h = record {
   nonempty = omega arith;
   few = omega arith;
-  segments = All-cons IsSegment (codes "cue") (codes "a" ∷ []) cue_is_a_segment (All-cons IsSegment (codes "a") [] a_is_a_segment (All-nil IsSegment));
+  segments = All-cons IsSegment word (codes "a" ∷ []) (symbol_segment word h) (All-cons IsSegment (codes "a") [] (symbol_segment (codes "a") a_name) (All-nil IsSegment));
 }
 
 ring_of_ring : (items : List Value) → ring_of (Ring items) ≡ Some items
@@ -69,28 +64,60 @@ two_times a b first second kept = record {
     rises zero d low high = kept
     rises (suc k) d low high = absurd (omega arith)
 
+three_times : (a b c : Fraction) → pos 0 ≤ℤ a.numer → pos 0 ≤ℤ b.numer → pos 0 ≤ℤ c.numer → is_lt (value_order b a) ≡ false → is_lt (value_order c b) ≡ false
+    → AreOrderlyTimes (a ∷ b ∷ c ∷ [])
+three_times a b c first second third kept kept_again = record {
+  few = omega arith;
+  start = All-cons (λ time. pos 0 ≤ℤ time.numer) a (b ∷ c ∷ []) first
+      (All-cons (λ time. pos 0 ≤ℤ time.numer) b (c ∷ []) second (All-cons (λ time. pos 0 ≤ℤ time.numer) c [] third (All-nil (λ time. pos 0 ≤ℤ time.numer))));
+  rising = rises;
+}
+  where
+    rises : (k : ℕ) (d : Fraction) → 0 ≤ k → k + 1 < 3 → is_lt (value_order (slice_index_or (a ∷ b ∷ c ∷ []) (k + 1) d) (slice_index_or (a ∷ b ∷ c ∷ []) k d)) ≡ false
+    rises zero d low high = kept
+    rises (suc zero) d low high = kept_again
+    rises (suc (suc k)) d low high = absurd (omega arith)
+
 pub texts : AreOrderlyTimes (whole (pos 0) ∷ whole (pos 8) ∷ [])
 unfolding value_order
 texts = two_times (whole (pos 0)) (whole (pos 8)) (omega arith) (omega arith) refl
 
-pub inputs_times : AreOrderlyTimes (whole (pos 0) ∷ record { numer = pos 5; denom = 2 } ∷ [])
+pub inputs_times : AreOrderlyTimes (whole (pos 0) ∷ record { numer = pos 5; denom = 2 } ∷ whole (pos 4) ∷ [])
 unfolding value_order
-inputs_times = two_times (whole (pos 0)) (record { numer = pos 5; denom = 2 }) (omega arith) (omega arith) refl
+inputs_times = three_times (whole (pos 0)) (record { numer = pos 5; denom = 2 }) (whole (pos 4)) (omega arith) (omega arith) (omega arith) refl refl
 
-is_input : (time : Fraction) (number : ℕ) → IsInput number (cue_of_60 time number)
-is_input time number = record {
-  cue = refl;
-  micro = refl;
-  thread = refl;
-  step = refl;
-  path = is_a_path;
-  values = subst (λ o. IsSomeAnd o (λ items. All (λ item. IsTrue (is_given item)) items × IsTrue (are_within items))) (sym (ring_of_ring (Whole (pos 60) ∷ [])))
-      (All-cons (λ item. IsTrue (is_given item)) (Whole (pos 60)) [] given (All-nil (λ item. IsTrue (is_given item))), within);
+cue_is_input : (time : Fraction) (number : ℕ) → IsInput number (cue_of_60 (input_place time number))
+cue_is_input time number = record {
+  place = refl;
+  form = ∣ inl (record {
+    kind = refl;
+    path = path_of_a (codes "cue") cue_name;
+    values = subst (λ o. IsSomeAnd o (λ items. All (λ item. IsTrue (is_given item)) items × IsTrue (are_within items))) (sym (ring_of_ring (Whole (pos 60) ∷ [])))
+        (All-cons (λ item. IsTrue (is_given item)) (Whole (pos 60)) [] given (All-nil (λ item. IsTrue (is_given item))), within);
+  }) ∣₁;
+}
+
+set_is_input : (time : Fraction) (number : ℕ) → IsInput number (set_to_60 (input_place time number))
+set_is_input time number = record {
+  place = refl;
+  form = ∣ inr (inl (record { kind = refl; path = path_of_a (codes "set") set_name; value = given })) ∣₁;
+}
+
+stop_is_input : (time : Fraction) (number : ℕ) → IsInput number (stop_of_a (input_place time number))
+stop_is_input time number = record {
+  place = refl;
+  form = ∣ inr (inr (record { kind = refl; path = record { name = codes "a"; symbol = a_name; whole = refl }; value = refl })) ∣₁;
 }
 
 pub each : (k : ℕ) (input : EventView)
-    → slice_get (cue_of_60 (whole (pos 0)) 1 ∷ cue_of_60 (record { numer = pos 5; denom = 2 }) 2 ∷ []) k ≡ Some input → IsInput (k + 1) input
-each zero input e = let same : cue_of_60 (whole (pos 0)) 1 ≡ input = cc in subst (IsInput 1) same (is_input (whole (pos 0)) 1)
+    → slice_get (cue_of_60 (input_place (whole (pos 0)) 1)
+    ∷ set_to_60 (input_place (record { numer = pos 5; denom = 2 }) 2)
+    ∷ stop_of_a (input_place (whole (pos 4)) 3) ∷ []) k ≡ Some input → IsInput (k + 1) input
+each zero input e =
+    let same : cue_of_60 (input_place (whole (pos 0)) 1) ≡ input = cc in subst (IsInput 1) same (cue_is_input (whole (pos 0)) 1)
 each (suc zero) input e =
-    let same : cue_of_60 (record { numer = pos 5; denom = 2 }) 2 ≡ input = cc in subst (IsInput 2) same (is_input (record { numer = pos 5; denom = 2 }) 2)
-each (suc (suc k)) input e = absurd (let z : None ≡ Some input = e in cc)
+    let same : set_to_60 (input_place (record { numer = pos 5; denom = 2 }) 2) ≡ input = cc in
+    subst (IsInput 2) same (set_is_input (record { numer = pos 5; denom = 2 }) 2)
+each (suc (suc zero)) input e =
+    let same : stop_of_a (input_place (whole (pos 4)) 3) ≡ input = cc in subst (IsInput 3) same (stop_is_input (whole (pos 4)) 3)
+each (suc (suc (suc k))) input e = absurd (let z : None ≡ Some input = e in cc)

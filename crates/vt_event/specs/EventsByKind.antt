@@ -53,6 +53,7 @@ took_event place path value = path_event place Took path value
 abbrev pub started_event : Place → Path → EventView
 started_event place path = path_event place Started path Nil
 
+-- a named thread ends, or a live loop is told to stop: the path says which
 abbrev pub ended_event : Place → Path → EventView
 ended_event place path = path_event place Ended path Nil
 

@@ -1,17 +1,21 @@
 -- Texts and inputs as a session gives them: own.
-use Rattle.std.specs.Prelude.{◌≡◌, ℕ, ◌+◌, ◌≤◌, pos, ◌≤ℤ◌, List, [], ◌∷◌, Bool, true, false, nat_le, Some, IsSomeAnd, IsTrue, All, codes, length, map, slice_get}
+use Rattle.std.specs.Prelude.{◌≡◌, ◌⊎◌, ℕ, ◌+◌, ◌≤◌, pos, ◌≤ℤ◌, List, [], ◌∷◌, Bool, true, false, nat_le, Some, IsSomeAnd, IsTrue, All, codes, length, map, slice_get}
 use Rattle.std.specs.List.Sorted.{IsSorted}
 use Rattle.vt_frac.specs.Fraction.{Fraction, whole}
+use Rattle.vt_frac.specs.Names.{is_symbol_name}
 use Rattle.vt_frac.specs.Order.{value_order}
+use Rattle.vt_path.specs.declared.inner_path.InnerKind.TheVariants.{Stop}
+use Rattle.vt_path.specs.Inner.{inner_of}
 use Rattle.vt_path.specs.Path.{IsPath}
 use Rattle.vt_value.specs.declared.value.Value.{Value, out-Value}
 use Rattle.vt_value.specs.declared.value.Value.TheOpen.{Value-F}
-use Rattle.vt_value.specs.declared.value.Value.TheVariants.{Ring, Whole}
+use Rattle.vt_value.specs.declared.value.Value.TheVariants.{Nil, Ring, Whole}
 use Rattle.vt_value.specs.Arithmetic.{are_within}
 use Rattle.vt_value.specs.Kinds.{ring_of}
-use Rattle.vt_event.specs.declared.kind.Kind.TheVariants.{Cue}
+use Rattle.vt_event.specs.declared.kind.Kind.TheVariants.{Cue, Set, Ended}
+use Rattle.vt_event.specs.declared.place.Place.{Place}
 use Rattle.vt_event.specs.Event.{EventView}
-use Rattle.vt_event.specs.EventsByKind.{cue_event}
+use Rattle.vt_event.specs.EventsByKind.{cue_event, ended_event, set_event}
 
 -- at most 1,048,576 times, each at least 0, none below an earlier one
 pub record AreOrderlyTimes (times : List Fraction) : Type 0 where
@@ -30,14 +34,38 @@ given_layer _ = false
 abbrev pub is_given : Value → Bool
 is_given value = given_layer (out-Value value)
 
--- the input with this number, from 1: a cue of the thread `[0]` at a path that a user may write, with the ring of its values
-pub record IsInput (number : ℕ) (event : EventView) : Type 0 where
-  pub cue : event.kind ≡ Cue
-  pub micro : event.place.micro ≡ 0
-  pub thread : event.place.thread ≡ 0 ∷ []
-  pub step : event.place.step ≡ number
+-- where the input with this number, from 1, stands: in the thread `[0]`, at micro step 0, and its number is the step
+abbrev pub input_place : Fraction → ℕ → Place
+input_place time number = record { time = time; micro = 0; thread = 0 ∷ []; step = number }
+
+-- a cue is given: at a path that a user may write, with the ring of its values
+pub record IsGivenCue (event : EventView) : Type 0 where
+  pub kind : event.kind ≡ Cue
   pub path : IsSomeAnd event.path IsPath
   pub values : IsSomeAnd (ring_of event.value) (λ items. All (λ item. IsTrue (is_given item)) items × IsTrue (are_within items))
+
+-- a value is set: at a path that a user may write
+pub record IsGivenSet (event : EventView) : Type 0 where
+  pub kind : event.kind ≡ Set
+  pub path : IsSomeAnd event.path IsPath
+  pub value : IsTrue (is_given event.value)
+
+-- the path `/!stop/NAME`, with the name of a symbol
+pub record IsStopPath (path : List (List ℕ)) : Type 0 where
+  pub name : List ℕ
+  pub symbol : IsTrue (is_symbol_name name)
+  pub whole : path ≡ inner_of Stop name
+
+-- a live loop is told to stop: an end, at the stop path of its name, with nil
+pub record IsGivenStop (event : EventView) : Type 0 where
+  pub kind : event.kind ≡ Ended
+  pub path : IsSomeAnd event.path IsStopPath
+  pub value : event.value ≡ Nil
+
+-- the input with this number, from 1: it stands at its place, and a cue, a set or a stop is given with it
+pub record IsInput (number : ℕ) (event : EventView) : Type 0 where
+  pub place : event.place ≡ input_place event.place.time number
+  pub form : ∥ IsGivenCue event ⊎ IsGivenSet event ⊎ IsGivenStop event ∥₁
 
 -- the texts begin at these times, and the inputs are these events
 pub record AreOrderly (text_times : List Fraction) (inputs : List EventView) : Type 0 where
@@ -45,11 +73,21 @@ pub record AreOrderly (text_times : List Fraction) (inputs : List EventView) : T
   pub inputs_times : AreOrderlyTimes (map (λ input. input.place.time) inputs)
   pub each : (k : ℕ) (input : EventView) → slice_get inputs k ≡ Some input → IsInput (k + 1) input
 
--- the input with this number at this time: a cue of `/cue/a` with the value 60
-abbrev pub cue_of_60 : Fraction → ℕ → EventView
-cue_of_60 time number = cue_event (record { time = time; micro = 0; thread = 0 ∷ []; step = number }) (codes "cue" ∷ codes "a" ∷ []) (Ring (Whole (pos 60) ∷ []))
+-- a cue of `/cue/a` with the value 60
+abbrev pub cue_of_60 : Place → EventView
+cue_of_60 place = cue_event place (codes "cue" ∷ codes "a" ∷ []) (Ring (Whole (pos 60) ∷ []))
 
--- there are such texts and inputs: texts at 0 and 8 seconds, inputs at 0 and 5/2
+-- a set of `/set/a` to 60
+abbrev pub set_to_60 : Place → EventView
+set_to_60 place = set_event place (codes "set" ∷ codes "a" ∷ []) (Whole (pos 60))
+
+-- a stop of the live loop `a`
+abbrev pub stop_of_a : Place → EventView
+stop_of_a place = ended_event place (inner_of Stop (codes "a"))
+
+-- there are such texts and inputs: texts at 0 and 8 seconds, and an input of each sort, at 0, 5/2 and 4
 abbrev pub SomeListsAreOrderly : Type 0
 SomeListsAreOrderly = AreOrderly (whole (pos 0) ∷ whole (pos 8) ∷ [])
-    (cue_of_60 (whole (pos 0)) 1 ∷ cue_of_60 (record { numer = pos 5; denom = 2 }) 2 ∷ [])
+    (cue_of_60 (input_place (whole (pos 0)) 1)
+    ∷ set_to_60 (input_place (record { numer = pos 5; denom = 2 }) 2)
+    ∷ stop_of_a (input_place (whole (pos 4)) 3) ∷ [])

@@ -32,7 +32,7 @@ pub enum Kind {
     Defined,
     /// A named thread started.
     Started,
-    /// A named thread ended.
+    /// A named thread ended, or a live loop is told to stop.
     Ended,
 }
 

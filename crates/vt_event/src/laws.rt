@@ -34,7 +34,7 @@ pub fn thread_order_is_lexicographic()
     ensures { ThreadOrderIsLexicographic }
 {}
 
-/// Two texts and two inputs that are orderly.
+/// Two texts and three inputs, one of each sort, that are orderly.
 pub fn some_lists_are_orderly()
     ensures { SomeListsAreOrderly }
 {}

@@ -1,7 +1,7 @@
 -- What the bytes of a mark are, by its terminal, and what follows where the token has the form of its kind.
 use Rattle.std.proofs.Common.{◌≡◌, ℕ, suc, ◌-◌, ◌≤◌, pos, ◌&&◌, Bool, true, false, true≢false, cond, List, [], ◌∷◌, ◌++◌, Result, Ok, Err, IsTrue, refl, sym, ap, ◌∙◌, subst, length, take, bytes_eq, is_ok, length-append, arith}
 use Rattle.std.proofs.lemmas.Int.{ints}
-use Rattle.std.specs.List.{list_all}
+use Rattle.std.specs.List.{AllByRecursion, list_all}
 use Rattle.std.specs.Str.Parse.{digits_value}
 use Rattle.std.proofs.Math.Seq.{take-append_seam}
 use Rattle.vt_frac.specs.declared.fault.DecimalFault.{DecimalFault}
@@ -32,16 +32,7 @@ pub record IsGood (t : Mark) : Type 0 where
   pub good : GoodTerminal t.terminal t.bytes
 
 abbrev pub AreGood : List Mark → Type 0
-AreGood [] = Unit {0}
-AreGood (t ∷ ts) = IsGood t × AreGood ts
-
-pub good_prefix : (x y : List Mark) → AreGood (x ++ y) → AreGood x
-good_prefix [] y g = tt
-good_prefix (t ∷ x) y g = (g.0, good_prefix x y g.1)
-
-pub good_rest : (x y : List Mark) → AreGood (x ++ y) → AreGood y
-good_rest [] y g = g
-good_rest (t ∷ x) y g = good_rest x y g.1
+AreGood tokens = AllByRecursion IsGood tokens
 
 pub literal_good : (w : Terminal) (bytes : List ℕ) → is_literal w ≡ true → GoodTerminal w bytes → IsLiteral (literal_at w bytes)
 literal_good terminals.Name bytes e h = absurd (true≢false (sym e))

@@ -1,5 +1,5 @@
 -- The tree that tokens are read as is well formed where their bytes have the forms of their kinds, and those of a lexed text have.
-use Rattle.std.proofs.Common.{◌≡◌, ℕ, zero, suc, ◌+◌, Bool, true, false, cond, List, [], ◌∷◌, ◌++◌, Some, None, refl, sym, ap, ◌∙◌, subst, arith}
+use Rattle.std.proofs.Common.{◌≡◌, ℕ, zero, suc, ◌+◌, Bool, true, false, cond, List, [], ◌∷◌, ◌++◌, Some, refl, sym, ap, ◌∙◌, subst, arith}
 use Rattle.std.specs.Prelude.{slice_get}
 use Rattle.std.specs.List.{All}
 use Rattle.std.proofs.lemmas.List.Elements.{All-nil, All-cons}
@@ -8,17 +8,19 @@ use Rattle.vt_lex.specs.Forms.{HasForm}
 use Rattle.vt_lex.specs.Lexing.{Lexes}
 use Rattle.vt_lex.proofs.Shapes.{tokens_have_forms}
 use Rattle.vt_tree.specs.declared.statement.Block.{Block, out-Block}
-use Rattle.vt_tree.specs.Parts.{Part as TreePart, called, opened as part_opened, blocks_of, in_text, whole_block, children}
-use Rattle.vt_tree.specs.WellFormed.{IsWellFormed}
+use Rattle.vt_frac.specs.Names.{IsName}
+use Rattle.vt_tree.specs.Parts.{Part as TreePart, called, opened as part_opened, blocks_of, in_stmt, in_text, whole_block, children}
+use Rattle.vt_tree.specs.WellFormed.{IsFormedStmt, IsWellFormed}
 use Rattle.vt_grammar.specs.Formed.{IsFormed, AreFormed}
 use Rattle.vt_grammar.specs.Grammar.{block}
 use Rattle.vt_grammar.specs.Marks.{Spelled, begins_block, mark_of, marked, number_with, terminal_of}
 use Rattle.vt_grammar.specs.Tokens.{spelled, spelled_in}
 use Rattle.vt_grammar.specs.Text.{text, Reads}
 use Rattle.vt_grammar.proofs.FormedMarks.{marks_good}
-use Rattle.vt_grammar.proofs.FormedRules.{statements_told}
-use Rattle.vt_grammar.proofs.FormedTrees.{IsWhole, block_is, numbers}
-use Rattle.vt_grammar.proofs.Tells.{Tells, begun, map_tells}
+use Rattle.vt_grammar.proofs.FactRules.{statements_told}
+use Rattle.vt_grammar.proofs.FormedFacts.{numbers_begun, begun, formed_facts}
+use Rattle.vt_grammar.proofs.FormedTrees.{IsWhole, block_is, each_is, numbers}
+use Rattle.vt_grammar.proofs.Tells.{Tells, map_tells}
 
 -- The numbers go up one by one from this one.
 abbrev CountFrom : ℕ → List ℕ → Type 0
@@ -47,9 +49,9 @@ numbers_are (part_opened block ∷ parts) n (suc k) b h e =
     let later : (out-Block b).number ≡ suc n + k = numbers_are parts (suc n) k b h.1 e in
     omega (arith, later)
 
-text_tells : Tells text (λ tree ns. IsWhole tree (0 ∷ ns))
-unfolding text
-text_tells = map_tells (statements_told 64) (λ stmts ns h. block_is 0 None stmts [] ns (record { is = refl }) h)
+text_tells : Tells numbers_begun text (λ tree ns. IsWhole tree (0 ∷ ns))
+unfolding text formed_facts
+text_tells = map_tells (statements_told formed_facts 64) (λ stmts ns h. block_is 0 [] stmts ns (All-nil IsName) (each_is IsFormedStmt in_stmt stmts ns h))
 
 pub formed_where_read : (tokens : List Spelled) (tree : Block) → AreFormed tokens → Reads tokens tree → IsWellFormed tree
 unfolding Reads

@@ -1,7 +1,7 @@
 -- The trees that the rules of the grammar give: that each has its form, and which blocks stand in it in their order.
 use Rattle.std.proofs.Common.{◌≡◌, ℕ, suc, Bool, true, false, true≢false, ◌&&◌, IsTrue, cond, nat_eq, is_none, List, [], ◌∷◌, ◌++◌, length, map, Option, Some, None, refl, sym, ap, ◌∙◌, subst, append-nil, append_assoc, arith}
 use Rattle.std.specs.List.{All, AllByRecursion}
-use Rattle.std.proofs.lemmas.List.Elements.{All-from_recursion, All-nil, recursion_from_All}
+use Rattle.std.proofs.lemmas.List.Elements.{All-from_recursion, recursion_from_All}
 use Rattle.vt_tree.specs.declared.expression.Node.{Node, out-Node, roll-Node, out-roll-Node, map-Node}
 use Rattle.vt_tree.specs.declared.expression.Node.TheVariants as nodes
 use Rattle.vt_tree.specs.declared.expression.Node.TheOpen.{Node-F, Simple-F, StmtForm-F, Call-F, Expr-F, Link-F, Arm-F, Block-F, Stmt-F}
@@ -23,11 +23,12 @@ use Rattle.vt_tree.specs.declared.statement.StmtForm.{StmtForm, roll-StmtForm, m
 use Rattle.vt_tree.specs.declared.statement.StmtForm.TheVariants as forms
 use Rattle.vt_frac.specs.Names.{IsName, is_label_name}
 use Rattle.vt_tree.specs.Forms.{IsLiteral}
-use Rattle.vt_tree.specs.Parts.{Part as TreePart, called, opened, Place, Walk, children, each, if_there, whole_block, inside, after_dot, at_line, node_parts, in_simple, in_form, in_call, in_expr, in_link, in_arm, in_stmt}
+use Rattle.vt_tree.specs.Parts.{Part as TreePart, called, opened, Context, Walk, children, each, if_there, whole_block, inside, after_dot, at_line, node_parts, in_simple, in_form, in_call, in_expr, in_link, in_arm, in_stmt}
 use Rattle.vt_tree.specs.WellFormed.{is_op_of, IsLinkCount, GoodNode, GoodSimple, GoodForm, GoodCall, GoodExpr, GoodLink, GoodArm, GoodBlock, GoodStmt, IsFormedNode, IsFormedSimple, IsFormedStmtForm, IsFormedCall, IsFormedExpr, IsFormedLink, IsFormedArm, IsFormedBlock, IsFormedStmt}
 use Rattle.vt_tree.proofs.PartsLemmas.{in_node-is, in_node-out, in_simple-is, in_form-is, in_call-is, in_call-out, in_expr-is, in_expr-out, in_link-is, in_arm-is, in_block-is, in_stmt-is}
 use Rattle.vt_grammar.specs.declared.parts.Arguments.{Arguments}
-use Rattle.vt_grammar.specs.Trees.{Layer, plain, wrapped, call_of, call_with, no_arguments, is_get, is_bare_get, node_takes_block, takes_block, node_with_block, with_block, form_tree, stmt_tree, arm_tree, block_tree, present}
+use Rattle.vt_grammar.specs.Trees.{Layer, plain, wrapped, call_of, call_with, no_arguments, is_get, is_bare_get, node_takes_block, takes_block, node_with_block, with_block, form_tree, stmt_tree, arm_tree}
+use Rattle.vt_grammar.proofs.Facts.{AreGiven, IsGuard}
 use Rattle.vt_grammar.proofs.Tells.{InOrder, Maybe}
 
 -- the numbers of the blocks among parts
@@ -48,7 +49,7 @@ numbers_of_two x y {ns = ns} {ms = ms} e f = numbers-append x y ∙ ap (λ z. z 
 -- The value has its form, and these are the numbers of the blocks in it, wherever it stands.
 pub record Is {X : Type 0} (F : X → Type 0) (W : X → Walk) (x : X) (ns : List ℕ) : Type 0 where
   pub formed : F x
-  pub numbered : (p : Place) → numbers (W x p) ≡ ns
+  pub numbered : (p : Context) → numbers (W x p) ≡ ns
 
 -- lists
 
@@ -200,7 +201,7 @@ HasNoBlock _ = Unit {0}
 -- An expression that has its form, whose blocks have these numbers. Where it is a call, that has no block.
 pub record IsExpr (e : Expr) (ns : List ℕ) : Type 0 where
   pub formed : IsFormedExpr e
-  pub numbered : (p : Place) → numbers (in_expr e p) ≡ ns
+  pub numbered : (p : Context) → numbers (in_expr e p) ≡ ns
   pub no_block : HasNoBlock (out-Node (out-Expr e).node)
 
 abbrev pub IsValue : Expr → List ℕ → Type 0
@@ -212,17 +213,17 @@ as_value e ns h = record { formed = h.formed; numbered = h.numbered }
 plain_formed : (n : Node) → IsFormedNode n → IsFormedExpr (plain n)
 plain_formed n h = made_expr (plain n) (record { wraps = 0; node = n }) (record { wraps = 0; node = (n, h) }) refl refl tt
 
-plain_numbers : (n : Node) (layer : Layer) (ns : List ℕ) → n ≡ roll-Node layer → ((p : Place) → numbers (node_parts children layer p) ≡ ns)
-    → (p : Place) → numbers (in_expr (plain n) p) ≡ ns
+plain_numbers : (n : Node) (layer : Layer) (ns : List ℕ) → n ≡ roll-Node layer → ((p : Context) → numbers (node_parts children layer p) ≡ ns)
+    → (p : Context) → numbers (in_expr (plain n) p) ≡ ns
 plain_numbers n layer ns e h p =
     ap (λ z. numbers z) (in_expr-is (plain n) (record { wraps = 0; node = n }) p refl ∙ in_node-is n layer p e) ∙ h p
 
-plain_layer : (n : Node) (layer : Layer) → n ≡ roll-Node layer → out-Node (out-Expr (plain n)).node ≡ layer
+pub plain_layer : (n : Node) (layer : Layer) → n ≡ roll-Node layer → out-Node (out-Expr (plain n)).node ≡ layer
 plain_layer n layer e =
     ap (λ (x : Expr-F Node Simple StmtForm Call Expr Link Arm Block Stmt). out-Node x.node) (out-roll-Expr (record { wraps = 0; node = n }))
     ∙ ap out-Node e ∙ out-roll-Node layer
 
-plain_is : (n : Node) (layer : Layer) (ns : List ℕ) → n ≡ roll-Node layer → IsFormedNode n → ((p : Place) → numbers (node_parts children layer p) ≡ ns)
+plain_is : (n : Node) (layer : Layer) (ns : List ℕ) → n ≡ roll-Node layer → IsFormedNode n → ((p : Context) → numbers (node_parts children layer p) ≡ ns)
     → HasNoBlock layer → IsExpr (plain n) ns
 plain_is n layer ns e f h b = record {
   formed = plain_formed n f;
@@ -265,7 +266,7 @@ dot_formed of call h g = made_node (nodes.Dot of call) (Node-F.Dot of call) (Nod
 pub dot_is : (of : Expr) (call : Call) (ns ms : List ℕ) → IsValue of ns → IsCall call ms → IsExpr (plain (nodes.Dot of call)) (ns ++ ms)
 dot_is of call ns ms h g =
     plain_is (nodes.Dot of call) (Node-F.Dot of call) (ns ++ ms) (sym (nodes.rolls-Dot of call)) (dot_formed of call h.formed g.formed)
-    (λ p. numbers_of_two (in_expr of (inside p)) (called (record { place = after_dot p; call = call }) ∷ in_call call (after_dot p)) (h.numbered (inside p)) (g.numbered (after_dot p))) tt
+    (λ p. numbers_of_two (in_expr of (inside p)) (called (record { context = after_dot p; call = call }) ∷ in_call call (after_dot p)) (h.numbered (inside p)) (g.numbered (after_dot p))) tt
 
 pub unary_is : (op : UnaryOp) (of : Expr) (ns : List ℕ) → IsValue of ns → IsExpr (plain (nodes.Unary op of)) ns
 unary_is op of ns h =
@@ -277,7 +278,7 @@ unary_is op of ns h =
 pub record IsLink (kind : ChainKind) (link : Link) (ns : List ℕ) : Type 0 where
   pub formed : IsFormedLink link
   pub op : IsTrue (is_op_of kind (out-Link link).op)
-  pub numbered : (p : Place) → numbers (in_link link p) ≡ ns
+  pub numbered : (p : Context) → numbers (in_link link p) ≡ ns
 
 pub link_is : (kind : ChainKind) (op : ChainOp) (part : Expr) (ns : List ℕ) → IsTrue (is_op_of kind op) → IsValue part ns → IsLink kind (roll-Link (record { op = op; part = part })) ns
 link_is kind op part ns o h = record {
@@ -289,7 +290,7 @@ link_is kind op part ns o h = record {
 record AreChained (kind : ChainKind) (links : List Link) (ns : List ℕ) : Type 0 where
   formed : AllByRecursion IsFormedLink links
   ops : AllByRecursion (λ link. IsTrue (is_op_of kind (out-Link link).op)) links
-  numbered : (p : Place) → numbers (each in_link links p) ≡ ns
+  numbered : (p : Context) → numbers (each in_link links p) ≡ ns
 
 are_chained : (kind : ChainKind) (links : List Link) (ns : List ℕ) → InOrder (IsLink kind) links ns → AreChained kind links ns
 are_chained kind [] ns h = record { formed = tt; ops = tt; numbered = λ p. sym h }
@@ -337,7 +338,21 @@ pub record IsFormedOption (o : List ℕ × Expr) : Type 0 where
 pub record IsArguments (given : Arguments) (ns : List ℕ) : Type 0 where
   pub args : AllByRecursion IsFormedExpr given.args
   pub options : AllByRecursion IsFormedOption given.options
-  pub numbered : (p : Place) → numbers (each in_expr given.args p ++ each (λ (o : List ℕ × Expr). in_expr o.1) given.options p) ≡ ns
+  pub numbered : (p : Context) → numbers (each in_expr given.args p ++ each (λ (o : List ℕ × Expr). in_expr o.1) given.options p) ≡ ns
+
+-- an argument with a label
+abbrev pub IsOption : List ℕ × Expr → List ℕ → Type 0
+IsOption = Is IsFormedOption (λ o. in_expr o.1)
+
+pub given_are : (given : Arguments) (ns : List ℕ) → AreGiven IsValue IsOption given ns → IsArguments given ns
+given_are given ns h =
+    let args = each_is IsFormedExpr in_expr given.args h.prefix h.args in
+    let options = each_is IsFormedOption (λ o. in_expr o.1) given.options h.rest h.options in
+    record {
+      args = args.formed;
+      options = options.formed;
+      numbered = λ p. numbers_of_two (each in_expr given.args p) (each (λ (o : List ℕ × Expr). in_expr o.1) given.options p) (args.numbered p) (options.numbered p) ∙ sym h.whole;
+    }
 
 record PairedOptions (options : List (List ℕ × Expr)) : Type 0 where
   pairs : List (List ℕ × With IsFormedExpr)
@@ -375,10 +390,10 @@ call_formed name w given (Some block) n a o b =
     (record { name = n; labels = All-from_recursion (λ (o : List ℕ × Expr). IsTrue (is_label_name o.0)) given.options (labels_of given.options o) })
 
 -- the arguments of a call, and then its block
-abbrev arguments_parts : Arguments → Walk
+abbrev pub arguments_parts : Arguments → Walk
 arguments_parts given p = each in_expr given.args p ++ each (λ (o : List ℕ × Expr). in_expr o.1) given.options p
 
-call_of_parts : (name : List ℕ) (w : Bool) (given : Arguments) (block : Option Block) (p : Place)
+pub call_of_parts : (name : List ℕ) (w : Bool) (given : Arguments) (block : Option Block) (p : Context)
     → in_call (call_of name w given block) p ≡ arguments_parts given (inside p) ++ if_there (whole_block children) block (inside p)
 call_of_parts name w given block p =
     in_call-is (call_of name w given block) (record { name = name; wrapped = w; args = given.args; options = given.options; block = block }) p refl
@@ -388,7 +403,7 @@ there_formed : (block : Option Block) (ms : List ℕ) → Maybe IsWhole block ms
 there_formed None ms h = tt
 there_formed (Some b) ms h = h.is.formed
 
-there_numbers : (block : Option Block) (ms : List ℕ) → Maybe IsWhole block ms → (p : Place) → numbers (if_there (whole_block children) block p) ≡ ms
+there_numbers : (block : Option Block) (ms : List ℕ) → Maybe IsWhole block ms → (p : Context) → numbers (if_there (whole_block children) block p) ≡ ms
 there_numbers None ms h p = sym h.is
 there_numbers (Some b) ms h p = h.is.numbered p
 
@@ -414,7 +429,7 @@ call_node_is name w given ns n h =
 -- A block after a value
 
 -- the arguments of a call, as they stand in it
-abbrev arguments_in : Call → Arguments
+abbrev pub arguments_in : Call → Arguments
 arguments_in call = record { args = (out-Call call).args; options = (out-Call call).options }
 
 args_formed : (call : Call) → IsFormedCall call → AllByRecursion IsFormedExpr (out-Call call).args
@@ -442,7 +457,7 @@ with_formed : (call : Call) (b : Block) → IsFormedCall call → IsFormedBlock 
 with_formed call b h g =
     call_formed (out-Call call).name (out-Call call).wrapped (arguments_in call) (Some b) (here_call call h).name (args_formed call h) (options_formed call h) g
 
-with_numbers : (call : Call) (b : Block) (ms : List ℕ) → (out-Call call).block ≡ None → IsWhole b ms → (p : Place) → numbers (in_call (call_with call b) p) ≡ numbers (in_call call p) ++ ms
+with_numbers : (call : Call) (b : Block) (ms : List ℕ) → (out-Call call).block ≡ None → IsWhole b ms → (p : Context) → numbers (in_call (call_with call b) p) ≡ numbers (in_call call p) ++ ms
 with_numbers call b ms e h p =
     let given = arguments_in call in
     let rest : if_there (whole_block children) (out-Call call).block (inside p) ≡ [] = ap (λ o. if_there (whole_block children) o (inside p)) e in
@@ -480,30 +495,12 @@ dot_child of call (Node-F.Index held at) e = absurd (cc)
 dot_child of call (Node-F.Unary op held) e = absurd (cc)
 dot_child of call (Node-F.Chain kind first rest) e = absurd (cc)
 
-pub args_more : (e : Expr) (args : List Expr) (options : List (List ℕ × Expr)) (ns ms : List ℕ) → IsValue e ns → IsArguments (record { args = args; options = options }) ms
-    → IsArguments (record { args = e ∷ args; options = options }) (ns ++ ms)
-args_more e args options ns ms h g = record {
-  args = (h.formed, g.args);
-  options = g.options;
-  numbered = λ p.
-      ap (λ z. numbers z) (append_assoc (in_expr e p) (each in_expr args p) (each (λ (o : List ℕ × Expr). in_expr o.1) options p))
-      ∙ numbers_of_two (in_expr e p) (each in_expr args p ++ each (λ (o : List ℕ × Expr). in_expr o.1) options p) (h.numbered p) (g.numbered p);
-}
-
-pub options_more : (label : List ℕ) (e : Expr) (options : List (List ℕ × Expr)) (ns ms : List ℕ) → IsTrue (is_label_name label) → IsValue e ns
-    → IsArguments (record { args = []; options = options }) ms → IsArguments (record { args = []; options = (label, e) ∷ options }) (ns ++ ms)
-options_more label e options ns ms l h g = record {
-  args = tt;
-  options = (record { label = l; value = h.formed }, g.options);
-  numbered = λ p. numbers_of_two (in_expr e p) (each (λ (o : List ℕ × Expr). in_expr o.1) options p) (h.numbered p) (g.numbered p);
-}
-
 pub no_arguments_are : IsArguments no_arguments []
 no_arguments_are = record { args = tt; options = tt; numbered = λ p. refl }
 
 -- the block goes into the node, after what stands there
 node_with : (node : Node) (layer : Layer) (b : Block) (ns ms : List ℕ) → out-Node node ≡ layer → node_takes_block layer ≡ true → HasNoBlock layer → IsFormedNode node
-    → ((p : Place) → numbers (node_parts children layer p) ≡ ns) → IsWhole b ms → IsValue (plain (node_with_block node layer b)) (ns ++ ms)
+    → ((p : Context) → numbers (node_parts children layer p) ≡ ns) → IsWhole b ms → IsValue (plain (node_with_block node layer b)) (ns ++ ms)
 node_with node (Node-F.Name name) b ns ms e t n f h g =
     let call = call_of name false no_arguments (Some b) in
     let good : IsName name = subst GoodNode e (here_node node f) in
@@ -529,15 +526,15 @@ node_with node (Node-F.Dot of call) b ns ms e t n f h g =
           (λ p. dotted p (h p));
     }
   where
-    dotted : (p : Place) → numbers (in_expr of (inside p) ++ (called (record { place = after_dot p; call = call }) ∷ in_call call (after_dot p))) ≡ ns
-        → numbers (in_expr of (inside p) ++ (called (record { place = after_dot p; call = call_with call b }) ∷ in_call (call_with call b) (after_dot p))) ≡ ns ++ ms
+    dotted : (p : Context) → numbers (in_expr of (inside p) ++ (called (record { context = after_dot p; call = call }) ∷ in_call call (after_dot p))) ≡ ns
+        → numbers (in_expr of (inside p) ++ (called (record { context = after_dot p; call = call_with call b }) ∷ in_call (call_with call b) (after_dot p))) ≡ ns ++ ms
     dotted p at =
         let before = numbers (in_expr of (inside p)) in
         let inner = numbers (in_call call (after_dot p)) in
-        numbers-append (in_expr of (inside p)) (called (record { place = after_dot p; call = call_with call b }) ∷ in_call (call_with call b) (after_dot p))
+        numbers-append (in_expr of (inside p)) (called (record { context = after_dot p; call = call_with call b }) ∷ in_call (call_with call b) (after_dot p))
         ∙ ap (λ z. before ++ z) (with_numbers call b ms (is_none-none (out-Call call).block t) g (after_dot p))
         ∙ sym (append_assoc before inner ms)
-        ∙ ap (λ z. z ++ ms) (sym (numbers-append (in_expr of (inside p)) (called (record { place = after_dot p; call = call }) ∷ in_call call (after_dot p))) ∙ at)
+        ∙ ap (λ z. z ++ ms) (sym (numbers-append (in_expr of (inside p)) (called (record { context = after_dot p; call = call }) ∷ in_call call (after_dot p))) ∙ at)
 node_with node (Node-F.Literal value) b ns ms e t n f h g = absurd (true≢false (sym t))
 node_with node (Node-F.List items) b ns ms e t n f h g = absurd (true≢false (sym t))
 node_with node (Node-F.Index of at) b ns ms e t n f h g = absurd (true≢false (sym t))
@@ -551,32 +548,22 @@ node_of_formed e h =
     let same : held.0.node.0 ≡ (out-Expr e).node = ap (λ (x : Expr-F Node Simple StmtForm Call Expr Link Arm Block Stmt). x.node) held.1 in
     subst IsFormedNode same held.0.node.1
 
-node_of_numbers : (e : Expr) (ns : List ℕ) → ((p : Place) → numbers (in_expr e p) ≡ ns) → (p : Place) → numbers (node_parts children (out-Node (out-Expr e).node) p) ≡ ns
+node_of_numbers : (e : Expr) (ns : List ℕ) → ((p : Context) → numbers (in_expr e p) ≡ ns) → (p : Context) → numbers (node_parts children (out-Node (out-Expr e).node) p) ≡ ns
 node_of_numbers e ns h p = ap (λ z. numbers z) (sym (in_expr-out e p ∙ in_node-out (out-Expr e).node p)) ∙ h p
 
-and_second : (a b : Bool) → a && b ≡ true → b ≡ true
+pub and_second : (a b : Bool) → a && b ≡ true → b ≡ true
 and_second true b e = e
 and_second false b e = absurd (true≢false (sym e))
 
-with_block_is : (e : Expr) (b : Block) (ns ms : List ℕ) → IsExpr e ns → takes_block e ≡ true → IsWhole b ms → IsValue (with_block e (Some b)) (ns ++ ms)
+pub with_block_is : (e : Expr) (b : Block) (ns ms : List ℕ) → IsExpr e ns → takes_block e ≡ true → IsWhole b ms → IsValue (with_block e (Some b)) (ns ++ ms)
 unfolding takes_block with_block
 with_block_is e b ns ms h t g =
     let node = (out-Expr e).node in
     node_with node (out-Node node) b ns ms refl (and_second (nat_eq (out-Expr e).wraps 0) (node_takes_block (out-Node node)) t) h.no_block
     (node_of_formed e h.formed) (node_of_numbers e ns h.numbered) g
 
--- a block that is there only where the expression takes one
-pub record TakesBlock (takes : Bool) (o : Option Block) (ms : List ℕ) : Type 0 where
-  pub there : Maybe IsWhole o ms
-  pub taken : (b : Block) → o ≡ Some b → takes ≡ true
-
-pub with_blocks_is : (e : Expr) (o : Option Block) (ns ms : List ℕ) → IsExpr e ns → TakesBlock (takes_block e) o ms → IsValue (with_block e o) (ns ++ ms)
-unfolding with_block
-with_blocks_is e None ns ms h g = subst (λ z. IsValue e z) (sym (ap (λ z. ns ++ z) g.there.is ∙ append-nil ns)) (as_value e ns h)
-with_blocks_is e (Some b) ns ms h g = with_block_is e b ns ms h (g.taken b refl) g.there.is
-
 -- a bare `get` has no block
-get_numbers : (layer : Layer) → is_get layer ≡ true → (p : Place) → numbers (node_parts children layer p) ≡ []
+get_numbers : (layer : Layer) → is_get layer ≡ true → (p : Context) → numbers (node_parts children layer p) ≡ []
 get_numbers (Node-F.Name name) e p = refl
 get_numbers (Node-F.Literal value) e p = absurd (true≢false (sym e))
 get_numbers (Node-F.Call call) e p = absurd (true≢false (sym e))
@@ -586,7 +573,7 @@ get_numbers (Node-F.Dot of call) e p = absurd (true≢false (sym e))
 get_numbers (Node-F.Unary op of) e p = absurd (true≢false (sym e))
 get_numbers (Node-F.Chain kind first rest) e p = absurd (true≢false (sym e))
 
-pub bare_get_numbers : (e : Expr) (ns : List ℕ) → is_bare_get e ≡ true → IsExpr e ns → (p : Place) → ns ≡ []
+pub bare_get_numbers : (e : Expr) (ns : List ℕ) → is_bare_get e ≡ true → IsExpr e ns → (p : Context) → ns ≡ []
 unfolding is_bare_get
 bare_get_numbers e ns b h p =
     let node = (out-Expr e).node in
@@ -655,11 +642,7 @@ iff_is arm arms (Some other) ns ms h g =
           ∙ numbers_of_two (each in_arm (arm ∷ arms) (inside p)) (each in_stmt other (inside p)) (h.numbered (inside p)) (g.is.numbered (inside p));
     }
 
--- a condition after a statement
-pub record IsGuard (guard : Bool × Expr) (ns : List ℕ) : Type 0 where
-  pub cond : IsValue guard.1 ns
-
-pub form_is : (simple : Simple) (guard : Option (Bool × Expr)) (ns ms : List ℕ) → IsSimple simple ns → Maybe IsGuard guard ms → IsForm (form_tree simple guard) (ns ++ ms)
+pub form_is : (simple : Simple) (guard : Option (Bool × Expr)) (ns ms : List ℕ) → IsSimple simple ns → Maybe (IsGuard IsValue) guard ms → IsForm (form_tree simple guard) (ns ++ ms)
 form_is simple None ns ms h g = record {
   formed = made_form (forms.Plain simple) (StmtForm-F.Plain simple) (StmtForm-F.Plain (simple, h.formed)) (sym (forms.rolls-Plain simple)) refl tt;
   numbered = λ p. ap (λ z. numbers z) (in_form-is (forms.Plain simple) (StmtForm-F.Plain simple) p (sym (forms.rolls-Plain simple)))
@@ -680,9 +663,9 @@ stmt_is line form ns h = record {
 
 -- Blocks
 
-block_layer : (number : ℕ) (params : List (List ℕ)) (stmts : List Stmt) (ns : List ℕ) → All IsName params → AreStmts stmts ns
+pub block_is : (number : ℕ) (params : List (List ℕ)) (stmts : List Stmt) (ns : List ℕ) → All IsName params → AreStmts stmts ns
     → IsWhole (roll-Block (record { number = number; params = params; stmts = stmts })) (number ∷ ns)
-block_layer number params stmts ns n h =
+block_is number params stmts ns n h =
     let ys = paired stmts h.formed in
     let layer : Block-F Node Simple StmtForm Call Expr Link Arm Block Stmt = record { number = number; params = params; stmts = stmts } in
     record {
@@ -691,28 +674,4 @@ block_layer number params stmts ns n h =
       numbered = λ p.
           ap (λ z. (out-Block (roll-Block layer)).number ∷ z) (ap (λ z. numbers z) (in_block-is (roll-Block layer) layer p refl) ∙ h.numbered p)
           ∙ ap (λ (x : Block-F Node Simple StmtForm Call Expr Link Arm Block Stmt). x.number ∷ ns) (out-roll-Block layer);
-    }
-
--- the names of parameters, which begin no block
-pub record AreNames (names : List (List ℕ)) (ns : List ℕ) : Type 0 where
-  pub all : All IsName names
-  pub begins_none : ns ≡ []
-
-pub block_is : (number : ℕ) (params : Option (List (List ℕ))) (stmts : List Stmt) (ms ns : List ℕ) → Maybe AreNames params ms → AreStmts stmts ns
-    → IsWhole (block_tree number params stmts) (number ∷ (ms ++ ns))
-block_is number None stmts ms ns n h =
-    subst (λ z. IsWhole (block_tree number None stmts) (number ∷ (z ++ ns))) (sym n.is) (block_layer number [] stmts ns (All-nil IsName) h)
-block_is number (Some params) stmts ms ns n h =
-    subst (λ z. IsWhole (block_tree number (Some params) stmts) (number ∷ (z ++ ns))) (sym n.is.begins_none) (block_layer number params stmts ns n.is.all h)
-
--- the statements that are there
-pub present_is : (lines : List (Option Stmt)) (ns : List ℕ) → InOrder (Maybe IsStmt) lines ns → AreStmts (present lines) ns
-present_is [] ns h = record { formed = tt; numbered = λ p. sym h }
-present_is (None ∷ lines) ns h =
-    subst (AreStmts (present lines)) (sym (h.whole ∙ ap (λ z. z ++ h.rest) h.first.is)) (present_is lines h.rest h.second)
-present_is (Some s ∷ lines) ns h =
-    let later = present_is lines h.rest h.second in
-    record {
-      formed = (h.first.is.formed, later.formed);
-      numbered = λ p. numbers_of_two (in_stmt s p) (each in_stmt (present lines) p) (h.first.is.numbered p) (later.numbered p) ∙ sym h.whole;
     }

@@ -18,6 +18,11 @@ pub mod Judging
 pub mod VerdictLaws
 pub mod FormedMarks
 pub mod Tells
+pub mod Facts
+pub mod FactRules
 pub mod FormedTrees
-pub mod FormedRules
+pub mod FormedFacts
 pub mod FormedTexts
+pub mod Among
+pub mod OrderFacts
+pub mod OrderTexts

@@ -7,4 +7,5 @@ pub mod Grammar
 pub mod Text
 pub mod Verdict
 pub mod Formed
+pub mod Order
 pub mod private

@@ -1,5 +1,6 @@
 //! What a text means is one thing: the laws of the relation between tokens and trees.
 ghost use Rattle.vt_grammar.specs.Formed.{AreFormedWhereLexed, IsFormedWhereRead};
+ghost use Rattle.vt_grammar.specs.Order.{IsInOrder};
 ghost use Rattle.vt_grammar.specs.Text.{PrefixesBegin, ReadBegins, IsReadOnce, IsReadOrRefused, IsRefusedOnce};
 ghost use Rattle.vt_grammar.specs.Verdict.{IsJudged, IsLineWhereRefused, IsTreeWhereRead};
 
@@ -43,4 +44,9 @@ pub fn verdict_law()
 pub fn formed_law()
     ensures read { IsFormedWhereRead }
     ensures lexed { AreFormedWhereLexed }
+{}
+
+/// The calls and the blocks of a tree stand in the order of the tokens that it is read from.
+pub fn order_law()
+    ensures { IsInOrder }
 {}

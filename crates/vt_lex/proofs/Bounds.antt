@@ -18,7 +18,7 @@ use Rattle.vt_lex.specs.declared.lexeme.Lexeme.{Lexeme}
 use Rattle.vt_lex.specs.declared.texts.TextUnit.{TextUnit}
 use Rattle.vt_lex.specs.declared.texts.TextUnit.TheVariants.{Closing, Byte, Bad}
 use Rattle.vt_lex.specs.Bytes.{is_blank}
-use Rattle.vt_lex.specs.Words.{first_start, operators}
+use Rattle.vt_lex.specs.Lexicon.{first_start, operators}
 use Rattle.vt_lex.specs.Numbers.{whole_fits, decimal_fits}
 use Rattle.vt_lex.specs.Texts.{Body, body_of, with_unit, and_byte, unit_of, escape_unit, escaped}
 use Rattle.vt_lex.specs.Lexemes.{lexeme, name_limit, named, ends_label, word_of, word_lexeme, symbol_lexeme, whole_of, decimal_of, number_lexeme, text_of, text_lexeme, operator_of, operator_lexeme, comment_lexeme, lexeme_by, lexeme_of}

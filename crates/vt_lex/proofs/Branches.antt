@@ -9,7 +9,7 @@ use Rattle.std.proofs.lemmas.Bool.Decides.{nat_tests}
 use Rattle.std.proofs.lemmas.List.{take-append-drop}
 use Rattle.vt_frac.specs.Names.{begins_name, is_name_byte, is_among, keywords, reserved}
 use Rattle.vt_lex.specs.Bytes.{is_blank}
-use Rattle.vt_lex.specs.Words.{operators}
+use Rattle.vt_lex.specs.Lexicon.{operators}
 use Rattle.vt_lex.specs.Lexemes.{lexeme_by, lexeme_of, word_lexeme, symbol_lexeme, number_lexeme, text_lexeme, operator_lexeme}
 
 -- A choice

@@ -4,7 +4,7 @@ use Rattle.std.specs.Prelude.{nat_eq}
 use Rattle.std.specs.List.{starts_with}
 use Rattle.std.specs.Str.{bytes_eq}
 use Rattle.vt_frac.specs.Names.{is_among}
-use Rattle.vt_lex.specs.Words.{first_start}
+use Rattle.vt_lex.specs.Lexicon.{first_start}
 
 or_assoc : (a b c : Bool) → (a || (b || c)) ≡ ((a || b) || c)
 or_assoc true b c = refl

@@ -7,7 +7,7 @@ use lib.Pointwise.{bytes_decides}
 use Rattle.std.proofs.lemmas.Bool.{leb-true, and_parts, or_cases, false≢true}
 use Rattle.std.proofs.lemmas.List.{length-take-le}
 use Rattle.vt_frac.specs.Names.{is_among}
-use Rattle.vt_lex.specs.Words.{first_start, operators}
+use Rattle.vt_lex.specs.Lexicon.{first_start, operators}
 
 -- no form is longer than one before it
 abbrev is_falling : List (List ℕ) → Bool

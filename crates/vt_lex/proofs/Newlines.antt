@@ -12,7 +12,7 @@ use Rattle.vt_frac.specs.Names.{is_among, keywords, reserved}
 use Rattle.vt_lex.specs.declared.texts.TextUnit.{TextUnit}
 use Rattle.vt_lex.specs.declared.texts.TextUnit.TheVariants.{Closing, Byte, Bad}
 use Rattle.vt_lex.specs.Texts.{Body, body_of, with_unit, and_byte, unit_of, escape_unit, escaped, IsTextForm}
-use Rattle.vt_lex.specs.Words.{operators}
+use Rattle.vt_lex.specs.Lexicon.{operators}
 use Rattle.vt_lex.specs.Places.{newlines}
 use Rattle.vt_lex.proofs.Bounds.{unit_cases, IsOneOrTwo}
 

@@ -7,7 +7,7 @@ use Rattle.std.proofs.lemmas.Bool.{cases_lt, lt-ltb, le-ltb, ne_eqb, and_parts}
 use Rattle.std.proofs.lemmas.List.{get_or-take, get_or-drop, get_or_default, get_or_past, drop-drop}
 use Rattle.std.proofs.lemmas.List.Elements.{All-append, All-nil, All-cons, All-weaker}
 use Rattle.vt_frac.specs.Names.{is_name_byte}
-use Rattle.vt_lex.specs.declared.token.Token.{Token as Word}
+use Rattle.vt_lex.specs.declared.token.Token.{Token as LexedToken}
 use Rattle.vt_lex.specs.declared.token.TokenKind.{TokenKind}
 use Rattle.vt_lex.specs.declared.token.TokenKind.TheVariants.{Newline, Name, Label, Keyword, Reserved, Symbol, Whole, Decimal, Text, Operator}
 use Rattle.vt_lex.specs.declared.lexeme.Sort.{Sort}
@@ -109,7 +109,7 @@ tokens_stand text first_line s bytes len (Some kind) left some within placed =
     (record { some = omega arith; within = within; line = placed.line; gap = placed.before; tight = ap (λ (b : ℕ). not (is_space b)) byte ∙ tight_at text (s.at + len) })
     (All-nil (StandsAt text first_line))
 
-all_stand : (text : List ℕ) (first_line : ℕ) (s : Standing) (bytes : List ℕ) (ps : List Lexeme) (ts : List Word) → bytes ≡ drop s.at text → Placed text first_line s → AreTokens s bytes ps ts → All (StandsAt text first_line) ts
+all_stand : (text : List ℕ) (first_line : ℕ) (s : Standing) (bytes : List ℕ) (ps : List Lexeme) (ts : List LexedToken) → bytes ≡ drop s.at text → Placed text first_line s → AreTokens s bytes ps ts → All (StandsAt text first_line) ts
 all_stand text first_line s bytes [] ts left placed h = subst (All (StandsAt text first_line)) (sym h.1) (All-nil (StandsAt text first_line))
 all_stand text first_line s bytes (p ∷ ps) ts left placed h =
     let some : 0 < length bytes = lexeme_there bytes p h.0 in
@@ -123,31 +123,31 @@ all_stand text first_line s bytes (p ∷ ps) ts left placed h =
     all_stand text first_line (after s p bytes) (drop p.len bytes) ps h.1.0 (ap (drop p.len) left ∙ drop-drop p.len s.at text) (placed_after text first_line s bytes p left least lines placed) h.1.2 in
     subst (All (StandsAt text first_line)) (sym h.1.1) (All-append (StandsAt text first_line) (kept s p bytes) h.1.0 here rest)
 
-pub tokens_stand_at : (text : List ℕ) (first_line : ℕ) (ts : List Word) → Lexes text first_line ts → All (StandsAt text first_line) ts
+pub tokens_stand_at : (text : List ℕ) (first_line : ℕ) (ts : List LexedToken) → Lexes text first_line ts → All (StandsAt text first_line) ts
 tokens_stand_at text first_line ts h =
     all_stand text first_line (opening first_line) text h.lexemes ts refl (record { line = sym (add-zero first_line); before = refl }) h.are_tokens
 
 -- no token begins before this place, and each ends before a later one begins
-pub record Follow (at : ℕ) (ts : List Word) : Type 0 where
-  pub begin : All (λ (t : Word). at ≤ t.from) ts
+pub record Follow (at : ℕ) (ts : List LexedToken) : Type 0 where
+  pub begin : All (λ (t : LexedToken). at ≤ t.from) ts
   pub order : AreInOrder ts
 
-follow_kept : (s : Standing) (bytes : List ℕ) (len : ℕ) (o : Option TokenKind) (rest : List Word) → Follow (s.at + len) rest → Follow s.at (tokens_of s bytes len o ++ rest)
+follow_kept : (s : Standing) (bytes : List ℕ) (len : ℕ) (o : Option TokenKind) (rest : List LexedToken) → Follow (s.at + len) rest → Follow s.at (tokens_of s bytes len o ++ rest)
 follow_kept s bytes len None rest f = record {
-  begin = All-weaker (λ (t : Word). s.at + len ≤ t.from) (λ (t : Word). s.at ≤ t.from) (λ (t : Word) (h : s.at + len ≤ t.from). omega arith) rest f.begin;
+  begin = All-weaker (λ (t : LexedToken). s.at + len ≤ t.from) (λ (t : LexedToken). s.at ≤ t.from) (λ (t : LexedToken) (h : s.at + len ≤ t.from). omega arith) rest f.begin;
   order = f.order;
 }
 follow_kept s bytes len (Some kind) rest f = record {
   begin =
-      All-cons (λ (t : Word). s.at ≤ t.from) (token_of s bytes len kind) rest (omega arith)
-      (All-weaker (λ (t : Word). s.at + len ≤ t.from) (λ (t : Word). s.at ≤ t.from) (λ (t : Word) (h : s.at + len ≤ t.from). omega arith) rest f.begin);
+      All-cons (λ (t : LexedToken). s.at ≤ t.from) (token_of s bytes len kind) rest (omega arith)
+      (All-weaker (λ (t : LexedToken). s.at + len ≤ t.from) (λ (t : LexedToken). s.at ≤ t.from) (λ (t : LexedToken) (h : s.at + len ≤ t.from). omega arith) rest f.begin);
   order = (f.begin, f.order);
 }
 
-pub all_follow : (s : Standing) (bytes : List ℕ) (ps : List Lexeme) (ts : List Word) → AreTokens s bytes ps ts → Follow s.at ts
-all_follow s bytes [] ts h = subst (Follow s.at) (sym h.1) (record { begin = All-nil (λ (t : Word). s.at ≤ t.from); order = tt })
+pub all_follow : (s : Standing) (bytes : List ℕ) (ps : List Lexeme) (ts : List LexedToken) → AreTokens s bytes ps ts → Follow s.at ts
+all_follow s bytes [] ts h = subst (Follow s.at) (sym h.1) (record { begin = All-nil (λ (t : LexedToken). s.at ≤ t.from); order = tt })
 all_follow s bytes (p ∷ ps) ts h =
     subst (Follow s.at) (sym h.1.1) (follow_kept s bytes p.len (kept_kind s p.sort) h.1.0 (all_follow (after s p bytes) (drop p.len bytes) ps h.1.0 h.1.2))
 
-pub tokens_in_order : (text : List ℕ) (first_line : ℕ) (ts : List Word) → Lexes text first_line ts → AreInOrder ts
+pub tokens_in_order : (text : List ℕ) (first_line : ℕ) (ts : List LexedToken) → Lexes text first_line ts → AreInOrder ts
 tokens_in_order text first_line ts h = (all_follow (opening first_line) text h.lexemes ts h.are_tokens).order

@@ -16,7 +16,7 @@ use Rattle.vt_lex.specs.declared.fault.LexKind.{LexKind}
 use Rattle.vt_lex.specs.declared.fault.LexKind.TheVariants.{Byte as NoToken, Text as BadText, Number, Long}
 use Rattle.vt_lex.specs.declared.lexeme.Sort.TheVariants.{Token}
 use Rattle.vt_lex.specs.declared.lexeme.Lexeme.{Lexeme}
-use Rattle.vt_lex.specs.Words.{first_start, operators}
+use Rattle.vt_lex.specs.Lexicon.{first_start, operators}
 use Rattle.vt_lex.specs.Numbers.{whole_fits, decimal_fits}
 use Rattle.vt_lex.specs.Lexemes.{lexeme, name_limit, named, ends_label, word_of, word_lexeme, symbol_lexeme, whole_of, decimal_of, number_lexeme, operator_of, operator_lexeme}
 use Rattle.vt_lex.proofs.Branches.{chosen, all_within, all_up_to, split_at}

@@ -16,7 +16,7 @@ use Rattle.vt_lex.specs.declared.fault.LexKind.TheVariants.{Byte as NoToken, Tex
 use Rattle.vt_lex.specs.declared.lexeme.Sort.{Sort}
 use Rattle.vt_lex.specs.declared.lexeme.Sort.TheVariants.{Token}
 use Rattle.vt_lex.specs.declared.lexeme.Lexeme.{Lexeme}
-use Rattle.vt_lex.specs.Words.{operators}
+use Rattle.vt_lex.specs.Lexicon.{operators}
 use Rattle.vt_lex.specs.Texts.{Body, body_of, IsTextForm}
 use Rattle.vt_lex.specs.Forms.{IsFormOf, IsLabelForm, IsWholeForm, IsDecimalForm}
 use Rattle.vt_lex.specs.Lexemes.{lexeme, name_limit, named, ends_label, word_of, symbol_lexeme, text_of, text_lexeme, lexeme_by, lexeme_of}

@@ -16,7 +16,7 @@ use Rattle.vt_frac.specs.Fraction.{Fraction}
 use Rattle.vt_frac.specs.Decimal.{IsPointed, are_digits}
 use Rattle.vt_frac.proofs.DecimalForms.{decimal-form}
 use Rattle.vt_frac.specs.Names.{begins_name, begins_symbol, is_name_byte, is_label_name, is_among, keywords, reserved}
-use Rattle.vt_lex.specs.declared.token.Token.{Token as Word}
+use Rattle.vt_lex.specs.declared.token.Token.{Token as LexedToken}
 use Rattle.vt_lex.specs.declared.token.TokenKind.{TokenKind}
 use Rattle.vt_lex.specs.declared.token.TokenKind.TheVariants.{Newline, Name, Label, Keyword, Reserved, Symbol, Whole, Decimal, Text, Operator}
 use Rattle.vt_lex.specs.declared.fault.LexKind.{LexKind}
@@ -27,7 +27,7 @@ use Rattle.vt_lex.specs.declared.lexeme.Lexeme.{Lexeme}
 use Rattle.vt_lex.specs.declared.texts.TextUnit.{TextUnit}
 use Rattle.vt_lex.specs.declared.texts.TextUnit.TheVariants.{Closing, Byte, Bad}
 use Rattle.vt_lex.specs.Bytes.{is_blank}
-use Rattle.vt_lex.specs.Words.{first_start, operators}
+use Rattle.vt_lex.specs.Lexicon.{first_start, operators}
 use Rattle.vt_lex.specs.Numbers.{whole_fits, decimal_fits}
 use Rattle.vt_lex.specs.Texts.{Body, body_of, with_unit, and_byte, unit_of, escape_unit, escaped, IsTextForm}
 use Rattle.vt_lex.specs.Lexemes.{lexeme, name_limit, named, ends_label, word_lexeme, symbol_lexeme, whole_of, decimal_of, number_lexeme, text_of, text_lexeme, operator_of, operator_lexeme, comment_lexeme, lexeme_by, lexeme_of}
@@ -415,7 +415,7 @@ tokens_formed text s bytes len (Some kind) left some within form =
     (record { some = omega arith; within = within; form = subst (IsFormOf kind) there (form kind refl) })
     (All-nil (HasForm text))
 
-all_formed : (text : List ℕ) (s : Standing) (bytes : List ℕ) (ps : List Lexeme) (ts : List Word) → bytes ≡ drop s.at text → AreTokens s bytes ps ts → All (HasForm text) ts
+all_formed : (text : List ℕ) (s : Standing) (bytes : List ℕ) (ps : List Lexeme) (ts : List LexedToken) → bytes ≡ drop s.at text → AreTokens s bytes ps ts → All (HasForm text) ts
 all_formed text s bytes [] ts left h = subst (All (HasForm text)) (sym h.1) (All-nil (HasForm text))
 all_formed text s bytes (p ∷ ps) ts left h =
     let some : 0 < length bytes = lexeme_there bytes p h.0 in
@@ -430,5 +430,5 @@ all_formed text s bytes (p ∷ ps) ts left h =
     all_formed text (after s p bytes) (drop p.len bytes) ps h.1.0 (ap (drop p.len) left ∙ drop-drop p.len s.at text) h.1.2 in
     subst (All (HasForm text)) (sym h.1.1) (All-append (HasForm text) (kept s p bytes) h.1.0 here rest)
 
-pub tokens_have_forms : (text : List ℕ) (first_line : ℕ) (ts : List Word) → Lexes text first_line ts → All (HasForm text) ts
+pub tokens_have_forms : (text : List ℕ) (first_line : ℕ) (ts : List LexedToken) → Lexes text first_line ts → All (HasForm text) ts
 tokens_have_forms text first_line ts h = all_formed text (opening first_line) text h.lexemes ts refl h.are_tokens

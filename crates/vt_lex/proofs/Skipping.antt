@@ -6,14 +6,14 @@ use Rattle.std.proofs.lemmas.Bool.Decides.{nat_tests}
 use Rattle.std.proofs.lemmas.List.{get_or-take, get_or-drop, get_or_past, drop-drop, take-append-drop}
 use Rattle.std.proofs.lemmas.List.Elements.{All-head}
 use Rattle.vt_frac.specs.Names.{is_among}
-use Rattle.vt_lex.specs.declared.token.Token.{Token as Word}
+use Rattle.vt_lex.specs.declared.token.Token.{Token as LexedToken}
 use Rattle.vt_lex.specs.declared.token.TokenKind.{TokenKind}
 use Rattle.vt_lex.specs.declared.token.TokenKind.TheVariants.{Newline}
 use Rattle.vt_lex.specs.declared.lexeme.Sort.{Sort}
 use Rattle.vt_lex.specs.declared.lexeme.Sort.TheVariants.{Blank, Comment, Line, Token}
 use Rattle.vt_lex.specs.declared.lexeme.Lexeme.{Lexeme}
 use Rattle.vt_lex.specs.Bytes.{is_blank, is_space}
-use Rattle.vt_lex.specs.Words.{joining}
+use Rattle.vt_lex.specs.Lexicon.{joining}
 use Rattle.vt_lex.specs.Lexemes.{lexeme_by, lexeme_of, comment_lexeme}
 use Rattle.vt_lex.specs.Lexing.{Standing, opening, is_dropped, brackets_after, kept_kind, token_of, tokens_of, goes_on_after, after, AreTokens, Lexes}
 use Rattle.vt_lex.specs.Places.{newlines}
@@ -114,7 +114,7 @@ rest_seam : (text : List ℕ) (at len : ℕ) → drop at text ≡ take len (drop
 rest_seam text at len = sym (take-append-drop len (drop at text)) ∙ ap (λ (xs : List ℕ). take len (drop at text) ++ xs) (drop-drop len at text)
 
 -- what the law says from a standing on
-pub record Skips (text : List ℕ) (s : Standing) (ts : List Word) : Type 0 where
+pub record Skips (text : List ℕ) (s : Standing) (ts : List LexedToken) : Type 0 where
   pub skipped : IsAllElseSkipped text s.at ts
   pub dropped : AreNewlinesDropped text s.at s.open_brackets s.goes_on ts
 
@@ -139,7 +139,7 @@ module _ (text : List ℕ) (s : Standing) (bytes : List ℕ) (p : Lexeme) (left 
   lines : newlines (take p.len bytes) ≡ newlines_in p.sort
   lines = newlines_of bytes p some e p.sort refl form
 
-  passed : (ts : List Word) → Follow (s.at + p.len) ts → Skips text (after s p bytes) ts → Skips text s ts
+  passed : (ts : List LexedToken) → Follow (s.at + p.len) ts → Skips text (after s p bytes) ts → Skips text s ts
   passed [] follow skips = record {
     skipped =
         ap (is_skipped false 10) (rest_seam text s.at p.len ∙ ap (λ (xs : List ℕ). xs ++ drop (s.at + p.len) text) (sym here))
@@ -152,7 +152,7 @@ module _ (text : List ℕ) (s : Standing) (bytes : List ℕ) (p : Lexeme) (left 
         (subst (λ (xs : List ℕ). 0 < newlines xs) (rest_seam text s.at p.len ∙ ap (λ (xs : List ℕ). xs ++ drop (s.at + p.len) text) (sym here)) h);
   }
   passed (t ∷ ts) follow skips =
-      let begins : s.at + p.len ≤ t.from = All-head (λ (u : Word). s.at + p.len ≤ u.from) t ts follow.begin in
+      let begins : s.at + p.len ≤ t.from = All-head (λ (u : LexedToken). s.at + p.len ≤ u.from) t ts follow.begin in
       let xs : List ℕ = take (t.from - (s.at + p.len)) (drop (s.at + p.len) text) in
       let cut : take (t.from - s.at) (drop s.at text) ≡ take p.len bytes ++ xs = seam text s.at p.len t.from begins ∙ ap (λ (ys : List ℕ). ys ++ xs) (sym here) in
       let place : s.at + p.len + (t.from - (s.at + p.len)) ≡ t.from = omega arith in
@@ -175,7 +175,7 @@ module _ (text : List ℕ) (s : Standing) (bytes : List ℕ) (p : Lexeme) (left 
       }
 
 -- a lexeme that makes a token
-token_next : (text : List ℕ) (s : Standing) (bytes : List ℕ) (p : Lexeme) (kind : TokenKind) (ts : List Word) → bytes ≡ drop s.at text → lexeme_of bytes ≡ Ok p → kept_kind s p.sort ≡ Some kind → Skips text (after s p bytes) ts → Skips text s (token_of s bytes p.len kind ∷ ts)
+token_next : (text : List ℕ) (s : Standing) (bytes : List ℕ) (p : Lexeme) (kind : TokenKind) (ts : List LexedToken) → bytes ≡ drop s.at text → lexeme_of bytes ≡ Ok p → kept_kind s p.sort ≡ Some kind → Skips text (after s p bytes) ts → Skips text s (token_of s bytes p.len kind ∷ ts)
 token_next text s bytes p kind ts left e made skips =
     let nothing : s.at - s.at ≡ 0 = omega arith in
     let size : p.len ≡ s.at + p.len - s.at = omega arith in
@@ -195,11 +195,11 @@ token_next text s bytes p kind ts left e made skips =
       kept_line true f = absurd (let z : None ≡ Some kind = f in cc)
       kept_line false f = refl
 
-next_skips : (text : List ℕ) (s : Standing) (bytes : List ℕ) (p : Lexeme) (o : Option TokenKind) (ts : List Word) → bytes ≡ drop s.at text → 0 < p.len → lexeme_of bytes ≡ Ok p → kept_kind s p.sort ≡ o → IsLexemeForm p.sort (take p.len bytes) → Follow (s.at + p.len) ts → Skips text (after s p bytes) ts → Skips text s (tokens_of s bytes p.len o ++ ts)
+next_skips : (text : List ℕ) (s : Standing) (bytes : List ℕ) (p : Lexeme) (o : Option TokenKind) (ts : List LexedToken) → bytes ≡ drop s.at text → 0 < p.len → lexeme_of bytes ≡ Ok p → kept_kind s p.sort ≡ o → IsLexemeForm p.sort (take p.len bytes) → Follow (s.at + p.len) ts → Skips text (after s p bytes) ts → Skips text s (tokens_of s bytes p.len o ++ ts)
 next_skips text s bytes p None ts left some e made form follow skips = passed text s bytes p left some e made form ts follow skips
 next_skips text s bytes p (Some kind) ts left some e made form follow skips = token_next text s bytes p kind ts left e made skips
 
-all_skip : (text : List ℕ) (s : Standing) (bytes : List ℕ) (ps : List Lexeme) (ts : List Word) → bytes ≡ drop s.at text → AreTokens s bytes ps ts → Skips text s ts
+all_skip : (text : List ℕ) (s : Standing) (bytes : List ℕ) (ps : List Lexeme) (ts : List LexedToken) → bytes ≡ drop s.at text → AreTokens s bytes ps ts → Skips text s ts
 all_skip text s bytes [] ts left h =
     let end : drop s.at text ≡ [] = sym left ∙ h.0 in
     subst (Skips text s) (sym h.1)
@@ -214,5 +214,5 @@ all_skip text s bytes (p ∷ ps) ts left h =
     (all_follow (after s p bytes) (drop p.len bytes) ps h.1.0 h.1.2)
     (all_skip text (after s p bytes) (drop p.len bytes) ps h.1.0 (ap (drop p.len) left ∙ drop-drop p.len s.at text) h.1.2))
 
-pub all_else_skipped : (text : List ℕ) (first_line : ℕ) (ts : List Word) → Lexes text first_line ts → Skips text (opening first_line) ts
+pub all_else_skipped : (text : List ℕ) (first_line : ℕ) (ts : List LexedToken) → Lexes text first_line ts → Skips text (opening first_line) ts
 all_else_skipped text first_line ts h = all_skip text (opening first_line) text h.lexemes ts refl h.are_tokens

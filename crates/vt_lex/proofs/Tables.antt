@@ -2,7 +2,7 @@
 use Rattle.std.proofs.Common.{◌≡◌, ℕ, List, ◌++◌, map, refl}
 use Rattle.vt_frac.specs.Names.{keywords, reserved}
 use Rattle.vt_lex.specs.declared.words.TheConstants.{JOINING_OPERATORS, PLAIN_OPERATORS, JOINING_KEYWORDS, PLAIN_KEYWORDS, RESERVED}
-use Rattle.vt_lex.specs.Words.{operators, joining}
+use Rattle.vt_lex.specs.Lexicon.{operators, joining}
 
 -- the texts of a constant
 abbrev pub texts_of : List (record { now : List ℕ }) → List (List ℕ)

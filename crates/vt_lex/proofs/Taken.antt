@@ -7,7 +7,7 @@ use Rattle.std.proofs.lemmas.List.{take-append-drop, get_or-take, drop-drop}
 use Rattle.std.proofs.lemmas.List.Elements.{All-append, All-nil, All-cons}
 use Rattle.std.proofs.lemmas.List.Sums.{sum_by-cons}
 use Rattle.vt_frac.specs.Names.{begins_name, begins_symbol, is_name_byte, is_among, keywords, reserved}
-use Rattle.vt_lex.specs.declared.token.Token.{Token as Word}
+use Rattle.vt_lex.specs.declared.token.Token.{Token as LexedToken}
 use Rattle.vt_lex.specs.declared.token.TokenKind.{TokenKind}
 use Rattle.vt_lex.specs.declared.token.TokenKind.TheVariants.{Newline, Name, Label, Keyword, Reserved, Symbol, Whole, Decimal, Text, Operator}
 use Rattle.vt_lex.specs.declared.fault.LexKind.{LexKind}
@@ -16,7 +16,7 @@ use Rattle.vt_lex.specs.declared.lexeme.Sort.{Sort}
 use Rattle.vt_lex.specs.declared.lexeme.Sort.TheVariants.{Blank, Comment, Line, Token}
 use Rattle.vt_lex.specs.declared.lexeme.Lexeme.{Lexeme}
 use Rattle.vt_lex.specs.Bytes.{is_blank}
-use Rattle.vt_lex.specs.Words.{first_start, operators}
+use Rattle.vt_lex.specs.Lexicon.{first_start, operators}
 use Rattle.vt_lex.specs.Numbers.{whole_fits, decimal_fits}
 use Rattle.vt_lex.specs.Texts.{Body, body_of}
 use Rattle.vt_lex.specs.Lexemes.{lexeme, name_limit, named, ends_label, word_lexeme, symbol_lexeme, whole_of, decimal_of, number_lexeme, text_of, text_lexeme, operator_of, operator_lexeme, comment_lexeme, lexeme_by, lexeme_of}
@@ -272,7 +272,7 @@ tokens_taken text s bytes p (Some kind) left e stands =
     })
     (All-nil (IsTaken text))
 
-all_taken : (text : List ℕ) (s : Standing) (bytes : List ℕ) (ps : List Lexeme) (ts : List Word) → bytes ≡ drop s.at text → AreTokens s bytes ps ts → All (IsTaken text) ts
+all_taken : (text : List ℕ) (s : Standing) (bytes : List ℕ) (ps : List Lexeme) (ts : List LexedToken) → bytes ≡ drop s.at text → AreTokens s bytes ps ts → All (IsTaken text) ts
 all_taken text s bytes [] ts left h = subst (All (IsTaken text)) (sym h.1) (All-nil (IsTaken text))
 all_taken text s bytes (p ∷ ps) ts left h =
     let some : 0 < length bytes = lexeme_there bytes p h.0 in

@@ -6,7 +6,7 @@ use Rattle.vt_frac.specs.Names.{IsName, is_label_name, is_symbol_name, is_among,
 use Rattle.vt_lex.specs.declared.token.Token.{Token}
 use Rattle.vt_lex.specs.declared.token.TokenKind.{TokenKind}
 use Rattle.vt_lex.specs.declared.token.TokenKind.TheVariants.{Newline, Name, Label, Keyword, Reserved, Symbol, Whole, Decimal, Text, Operator}
-use Rattle.vt_lex.specs.Words.{operators}
+use Rattle.vt_lex.specs.Lexicon.{operators}
 use Rattle.vt_lex.specs.Texts.{IsTextForm}
 
 -- the name of a label and a colon

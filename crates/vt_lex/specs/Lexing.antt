@@ -9,7 +9,7 @@ use Rattle.vt_lex.specs.declared.lexeme.Sort.{Sort}
 use Rattle.vt_lex.specs.declared.lexeme.Sort.TheVariants.{Blank, Comment, Line, Token as TokenOf}
 use Rattle.vt_lex.specs.declared.lexeme.Lexeme.{Lexeme}
 use Rattle.vt_lex.specs.Bytes.{is_space}
-use Rattle.vt_lex.specs.Words.{joining}
+use Rattle.vt_lex.specs.Lexicon.{joining}
 use Rattle.vt_lex.specs.Lexemes.{lexeme_of}
 
 -- where one stands in a text: how many bytes are passed, the line, the byte before (a newline before the first), the

@@ -1,5 +1,5 @@
 pub mod Bytes
-pub mod Words
+pub mod Lexicon
 pub mod Texts
 pub mod Numbers
 pub mod Lexemes

@@ -3,7 +3,7 @@ use Rattle.std.specs.Prelude.{◌≡◌, ℕ, ◌<◌, Bool, true, false, not, �
 use Rattle.vt_frac.specs.Names.{is_among}
 use Rattle.vt_lex.specs.declared.token.Token.{Token}
 use Rattle.vt_lex.specs.Bytes.{is_space}
-use Rattle.vt_lex.specs.Words.{joining}
+use Rattle.vt_lex.specs.Lexicon.{joining}
 use Rattle.vt_lex.specs.Lexing.{is_dropped, brackets_after}
 use Rattle.vt_lex.specs.Places.{newlines}
 

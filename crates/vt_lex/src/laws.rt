@@ -5,7 +5,7 @@ ghost use Rattle.vt_lex.specs.Lexing.{Lexes, LexRefuses, HasTokens, IsRefused};
 ghost use Rattle.vt_lex.specs.Forms.{HasForm};
 ghost use Rattle.vt_lex.specs.Places.{StandsAt, AreInOrder};
 ghost use Rattle.vt_lex.specs.Skipped.{IsAllElseSkipped, AreNewlinesDropped};
-ghost use Rattle.vt_lex.specs.Words.{first_start, operators};
+ghost use Rattle.vt_lex.specs.Lexicon.{first_start, operators};
 ghost use Rattle.vt_lex.specs.TokenLaws.{LongestIsTaken, FaultsByReason, RefusedByReason};
 ghost use Rattle.vt_lex.specs.declared.token.Token.{Token};
 ghost use Rattle.vt_lex.specs.declared.fault.LexKind.{LexKind as Reason};

@@ -1,7 +1,7 @@
 //! The words and operators of the language, and which of them bytes are.
 ghost use Rattle.std.specs.Prelude.{◌≡◌, length};
 ghost use Rattle.vt_frac.specs.Names.{is_among, keywords, reserved};
-ghost use Rattle.vt_lex.specs.Words.{first_start, operators, joining};
+ghost use Rattle.vt_lex.specs.Lexicon.{first_start, operators, joining};
 ghost use Rattle.vt_lex.specs.private.Spelled.{spelled};
 
 /// The keywords after which a line goes on.

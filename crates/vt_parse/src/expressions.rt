@@ -25,12 +25,12 @@ fn class_of(kind: ChainKind) -> Class
     ensures { result ≡ class_of kind }
 {
     match kind {
-        ChainKind::Term => Class::TermOp,
-        ChainKind::Sum => Class::SumOp,
-        ChainKind::Comp => Class::CompOp,
-        ChainKind::Conj => Class::ConjOp,
-        ChainKind::Disj => Class::DisjOp,
-        ChainKind::Expr => Class::ExprOp,
+        ChainKind::Term => Class::TermOperator,
+        ChainKind::Sum => Class::SumOperator,
+        ChainKind::Comp => Class::ComparisonOperator,
+        ChainKind::Conj => Class::ConjunctionOperator,
+        ChainKind::Disj => Class::DisjunctionOperator,
+        ChainKind::Expr => Class::ExpressionOperator,
     }
 }
 
@@ -43,7 +43,7 @@ impl<'a> Parser<'a> {
         if room == 0 {
             return Err(Fault::Here);
         }
-        self.expect_class(Class::ParenOpen)?;
+        self.expect_class(Class::ParenthesisOpen)?;
         let inner = self.cond(alloc, room - 1)?;
         let inner = self.followed(inner, Terminal::ParenClose)?;
         wrapped(alloc, inner)
@@ -101,7 +101,7 @@ impl<'a> Parser<'a> {
         if self.at(Terminal::Name) {
             return self.named(alloc, room);
         }
-        if self.at_class(Class::ParenOpen) {
+        if self.at_class(Class::ParenthesisOpen) {
             return self.parens(alloc, room);
         }
         self.list(alloc, room)
@@ -226,7 +226,7 @@ impl<'a> Parser<'a> {
     fn maybe_comparison(&mut self, alloc: Global, room: u32) -> Result<Option<Link>, Fault>
         ensures { Parses (optional (link (ops_of ChainKind.Comp) (below ChainKind.Comp (opened room)))) self.old self.new result }
     {
-        if self.at_class(Class::CompOp) {
+        if self.at_class(Class::ComparisonOperator) {
             let link = self.link(alloc, room, ChainKind::Comp)?;
             return Ok(Some(link));
         }

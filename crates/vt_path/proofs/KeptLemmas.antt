@@ -7,7 +7,7 @@ use Rattle.vt_path.specs.Path.{IsPath, IsSegment}
 use Rattle.vt_path.specs.Inner.{inner_of, kind_word}
 use Rattle.vt_path.specs.Kept.{IsKeptPath}
 use Rattle.vt_path.specs.declared.inner_path.InnerKind.{InnerKind}
-use Rattle.vt_path.specs.declared.inner_path.InnerKind.TheVariants.{Body, Def, Named, Looped}
+use Rattle.vt_path.specs.declared.inner_path.InnerKind.TheVariants.{Body, Def, Named, Looped, Stop}
 use Rattle.vt_path.proofs.NameLemmas.{symbol_segment}
 
 -- a path that a user writes is kept
@@ -23,6 +23,7 @@ kind_short Body = lit≤ tt
 kind_short Def = lit≤ tt
 kind_short Named = lit≤ tt
 kind_short Looped = lit≤ tt
+kind_short Stop = lit≤ tt
 
 -- an inner path too
 pub kept_inner : (kind : InnerKind) (name : List ℕ) → IsTrue (is_symbol_name name) → IsKeptPath (inner_of kind name)

@@ -5,10 +5,10 @@ pub mod PatternDecided
 pub mod DecidedLemmas
 pub mod Lists
 pub mod NameLemmas
-pub mod PathSteps
+pub mod PathReadsOn
 pub mod Prefixes
 pub mod PatternNext
-pub mod PatternSteps
+pub mod PatternReadsOn
 pub mod PatternInside
 pub mod PatternAlternatives
 pub mod PatternEnds

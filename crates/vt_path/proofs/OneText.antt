@@ -12,7 +12,7 @@ use Rattle.vt_path.specs.declared.pattern.Part.{Part}
 use Rattle.vt_path.specs.declared.pattern.Part.TheVariants.{Byte, AnyBytes, AnyByte, Set, Alternatives}
 use Rattle.vt_path.proofs.ByteLemmas.{no_slash, no_closing_bracket, no_closing_brace, no_comma}
 use Rattle.vt_path.proofs.PatternNext.{Next, next_of, segment_text-parts, good_parts}
-use Rattle.vt_path.proofs.PatternSteps.{single, bracket, brace}
+use Rattle.vt_path.proofs.PatternReadsOn.{single, bracket, brace}
 
 -- no path byte stands first
 abbrev Ends : List ℕ → Type 0

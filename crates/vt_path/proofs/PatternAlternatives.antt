@@ -4,15 +4,15 @@ use Rattle.std.proofs.lemmas.List.{append-nil}
 use Rattle.std.proofs.lemmas.List.Elements.{All-head, All-tail, All-nil, All-push}
 use Rattle.vt_path.specs.Byte.{IsPathByte}
 use Rattle.vt_path.specs.Pattern.{IsPattern, IsPart, IsWord, part_text, parts_text, names_text}
-use Rattle.vt_path.specs.private.PatternReading.{Reading, Leads, IsInAlternatives, IsSound, Steps, NoStep, FromParts, FromAlternatives, names_size}
+use Rattle.vt_path.specs.private.PatternReading.{Reading, GoesOnTo, IsInAlternatives, IsSound, ReadsOn, ReadsNoFurther, FromParts, FromAlternatives, names_size}
 use Rattle.vt_path.specs.declared.pattern.Segment.{Segment}
 use Rattle.vt_path.specs.declared.pattern.Part.{Part}
 use Rattle.vt_path.specs.declared.pattern.Part.TheVariants.{Alternatives}
-use Rattle.vt_path.specs.declared.pattern_reader.Place.TheVariants.{Between, InAlternatives}
+use Rattle.vt_path.specs.declared.pattern_reader.Position.TheVariants.{Between, InAlternatives}
 use Rattle.vt_path.proofs.ByteLemmas.{no_closing_brace, no_comma}
 use Rattle.vt_path.proofs.Lists.{All-prefix, All-back, All-middle}
 use Rattle.vt_path.proofs.PatternNext.{parts_good, parts_short, same_begun}
-use Rattle.vt_path.proofs.PatternSteps.{leads_in, leads_out, inside_in, inside_out, length-with}
+use Rattle.vt_path.proofs.PatternReadsOn.{goes_on_in, goes_on_out, inside_in, inside_out, length-with}
 
 -- what the bytes of an alternative, the others and the brace go on with
 pub data NextName (b : ℕ) (rest more : List ℕ) (others : List (List ℕ)) (after : List ℕ) : Type 0 where
@@ -68,9 +68,9 @@ length-middle names others name =
     let k : length (names ++ name ∷ others) ≡ length names + suc (length others) = length-append names (name ∷ others) in
     omega (arith, length-alternatives (names ++ name ∷ others) (omega arith), names_size-append names (name ∷ others))
 
-module _ (r : Reading) (e : r.place ≡ InAlternatives) where
-  names_in : (rest : List ℕ) (q : List Segment) → Leads r rest q → FromAlternatives r.done r.parts r.names r.bytes rest q
-  names_in rest q h = leads_in r InAlternatives rest q e h
+module _ (r : Reading) (e : r.position ≡ InAlternatives) where
+  names_in : (rest : List ℕ) (q : List Segment) → GoesOnTo r rest q → FromAlternatives r.done r.parts r.names r.bytes rest q
+  names_in rest q h = goes_on_in r InAlternatives rest q e h
 
   -- the alternatives, whole
   names_words : {rest : List ℕ} {q : List Segment} → IsPattern q → (h : FromAlternatives r.done r.parts r.names r.bytes rest q)
@@ -99,11 +99,11 @@ module _ (r : Reading) (e : r.place ≡ InAlternatives) where
   names_next b rest q good h = next_name b rest h.more h.others h.after (All-back IsPathByte r.bytes h.more (names_word good h).bytes) h.text
 
   -- one byte more in an alternative
-  pub name_byte_steps : (b : ℕ) → IsSound r → IsPathByte b → r.used + 2 ≤ 64
-      → Steps r b (record { done = r.done; parts = r.parts; names = r.names; bytes = r.bytes ++ b ∷ []; place = r.place; used = r.used + 1 })
-  name_byte_steps b sound path room =
+  pub name_byte_reads_on : (b : ℕ) → IsSound r → IsPathByte b → r.used + 2 ≤ 64
+      → ReadsOn r b (record { done = r.done; parts = r.parts; names = r.names; bytes = r.bytes ++ b ∷ []; position = r.position; used = r.used + 1 })
+  name_byte_reads_on b sound path room =
       let i : IsInAlternatives r = inside_in r InAlternatives e sound in
-      let new : Reading = record { done = r.done; parts = r.parts; names = r.names; bytes = r.bytes ++ b ∷ []; place = r.place; used = r.used + 1 } in
+      let new : Reading = record { done = r.done; parts = r.parts; names = r.names; bytes = r.bytes ++ b ∷ []; position = r.position; used = r.used + 1 } in
       let n : length (r.bytes ++ b ∷ []) ≡ length r.bytes + 1 = length-append r.bytes (b ∷ []) in
       record {
         sound = record {
@@ -120,10 +120,10 @@ module _ (r : Reading) (e : r.place ≡ InAlternatives) where
         };
         on = λ rest q whole h.
             let f = names_in (b ∷ rest) q h in
-            leads_out new InAlternatives rest q e (goes b rest q path f (names_next b rest q whole f));
+            goes_on_out new InAlternatives rest q e (goes b rest q path f (names_next b rest q whole f));
         back = λ rest q h.
-            let f : FromAlternatives r.done r.parts r.names (r.bytes ++ b ∷ []) rest q = leads_in new InAlternatives rest q e h in
-            leads_out r InAlternatives (b ∷ rest) q e (record {
+            let f : FromAlternatives r.done r.parts r.names (r.bytes ++ b ∷ []) rest q = goes_on_in new InAlternatives rest q e h in
+            goes_on_out r InAlternatives (b ∷ rest) q e (record {
               more = b ∷ f.more;
               others = f.others;
               after = f.after;
@@ -146,7 +146,7 @@ module _ (r : Reading) (e : r.place ≡ InAlternatives) where
               ∙ ap (λ (x : List ℕ). r.parts ++ Alternatives (r.names ++ x ∷ f.others) ∷ []) (sym (append_assoc r.bytes (b ∷ []) later))) f.closed;
         }
 
-  pub no_name_byte_full : (b : ℕ) → IsSound r → IsPathByte b → 64 < r.used + 2 → NoStep r b
+  pub no_name_byte_full : (b : ℕ) → IsSound r → IsPathByte b → 64 < r.used + 2 → ReadsNoFurther r b
   no_name_byte_full b sound path full rest q whole h =
       let f = names_in (b ∷ rest) q h in goes b rest q sound path full whole f (names_next b rest q whole f) where
         goes : (b : ℕ) (rest : List ℕ) (q : List Segment) → IsSound r → IsPathByte b → 64 < r.used + 2 → IsPattern q
@@ -160,7 +160,7 @@ module _ (r : Reading) (e : r.place ≡ InAlternatives) where
             let n : length f.more ≡ suc (length later) = ap length m in
             omega arith
 
-  pub no_name_other : (b : ℕ) → (IsPathByte b → ⊥) → (b ≡ 44 → ⊥) → (b ≡ 125 → ⊥) → NoStep r b
+  pub no_name_other : (b : ℕ) → (IsPathByte b → ⊥) → (b ≡ 44 → ⊥) → (b ≡ 125 → ⊥) → ReadsNoFurther r b
   no_name_other b path comma end rest q whole h =
       let f = names_in (b ∷ rest) q h in goes (names_next b rest q whole f) where
         goes : {more : List ℕ} {others : List (List ℕ)} {after : List ℕ} → NextName b rest more others after → ⊥
@@ -169,11 +169,11 @@ module _ (r : Reading) (e : r.place ≡ InAlternatives) where
         goes (NextName.at_byte later p m y) = path p
 
   -- the comma
-  pub comma_steps : IsSound r → 0 < length r.bytes → r.used + 3 ≤ 64
-      → Steps r 44 (record { done = r.done; parts = r.parts; names = r.names ++ r.bytes ∷ []; bytes = []; place = r.place; used = r.used + 1 })
-  comma_steps sound some room =
+  pub comma_reads_on : IsSound r → 0 < length r.bytes → r.used + 3 ≤ 64
+      → ReadsOn r 44 (record { done = r.done; parts = r.parts; names = r.names ++ r.bytes ∷ []; bytes = []; position = r.position; used = r.used + 1 })
+  comma_reads_on sound some room =
       let i : IsInAlternatives r = inside_in r InAlternatives e sound in
-      let new : Reading = record { done = r.done; parts = r.parts; names = r.names ++ r.bytes ∷ []; bytes = []; place = r.place; used = r.used + 1 } in
+      let new : Reading = record { done = r.done; parts = r.parts; names = r.names ++ r.bytes ∷ []; bytes = []; position = r.position; used = r.used + 1 } in
       let n : names_size (r.names ++ r.bytes ∷ []) ≡ names_size r.names + names_size (r.bytes ∷ []) = names_size-append r.names (r.bytes ∷ []) in
       record {
         sound = record {
@@ -190,10 +190,10 @@ module _ (r : Reading) (e : r.place ≡ InAlternatives) where
         };
         on = λ rest q whole h.
             let f = names_in (44 ∷ rest) q h in
-            leads_out new InAlternatives rest q e (goes rest q f (names_next 44 rest q whole f));
+            goes_on_out new InAlternatives rest q e (goes rest q f (names_next 44 rest q whole f));
         back = λ rest q h.
-            let f : FromAlternatives r.done r.parts (r.names ++ r.bytes ∷ []) [] rest q = leads_in new InAlternatives rest q e h in
-            leads_out r InAlternatives (44 ∷ rest) q e (record {
+            let f : FromAlternatives r.done r.parts (r.names ++ r.bytes ∷ []) [] rest q = goes_on_in new InAlternatives rest q e h in
+            goes_on_out r InAlternatives (44 ∷ rest) q e (record {
               more = [];
               others = f.more ∷ f.others;
               after = f.after;
@@ -219,7 +219,7 @@ module _ (r : Reading) (e : r.place ≡ InAlternatives) where
         goes rest q f (NextName.at_end x m t y) = absurd (omega arith)
         goes rest q f (NextName.at_byte later p m y) = absurd (no_comma 44 refl p)
 
-  pub no_comma_empty : r.bytes ≡ [] → NoStep r 44
+  pub no_comma_empty : r.bytes ≡ [] → ReadsNoFurther r 44
   no_comma_empty none rest q whole h =
       let f = names_in (44 ∷ rest) q h in goes rest q whole f (names_next 44 rest q whole f) where
         goes : (rest : List ℕ) (q : List Segment) → IsPattern q → (f : FromAlternatives r.done r.parts r.names r.bytes (44 ∷ rest) q)
@@ -233,7 +233,7 @@ module _ (r : Reading) (e : r.place ≡ InAlternatives) where
         goes rest q whole f (NextName.at_end x m t y) = omega arith
         goes rest q whole f (NextName.at_byte later p m y) = no_comma 44 refl p
 
-  pub no_comma_full : IsSound r → 64 < r.used + 3 → NoStep r 44
+  pub no_comma_full : IsSound r → 64 < r.used + 3 → ReadsNoFurther r 44
   no_comma_full sound full rest q whole h =
       let f = names_in (44 ∷ rest) q h in goes rest q sound full whole f (names_next 44 rest q whole f) where
         goes : (rest : List ℕ) (q : List Segment) → IsSound r → 64 < r.used + 3 → IsPattern q → (f : FromAlternatives r.done r.parts r.names r.bytes (44 ∷ rest) q)
@@ -251,9 +251,9 @@ module _ (r : Reading) (e : r.place ≡ InAlternatives) where
         goes rest q sound full whole f (NextName.at_byte later p m y) = no_comma 44 refl p
 
   -- the closing brace
-  pub brace_end_steps : IsSound r → 0 < length r.bytes
-      → Steps r 125 (record { done = r.done; parts = r.parts ++ Alternatives (r.names ++ r.bytes ∷ []) ∷ []; names = []; bytes = []; place = Between; used = r.used + 1 })
-  brace_end_steps sound some =
+  pub brace_end_reads_on : IsSound r → 0 < length r.bytes
+      → ReadsOn r 125 (record { done = r.done; parts = r.parts ++ Alternatives (r.names ++ r.bytes ∷ []) ∷ []; names = []; bytes = []; position = Between; used = r.used + 1 })
+  brace_end_reads_on sound some =
       let i : IsInAlternatives r = inside_in r InAlternatives e sound in
       let n : length (parts_text (r.parts ++ Alternatives (r.names ++ r.bytes ∷ []) ∷ [])) ≡ length (parts_text r.parts) + length (part_text (Alternatives (r.names ++ r.bytes ∷ [])))
       = length-with r.parts (Alternatives (r.names ++ r.bytes ∷ [])) in
@@ -269,7 +269,7 @@ module _ (r : Reading) (e : r.place ≡ InAlternatives) where
         };
         on = λ rest q whole h. let f = names_in (125 ∷ rest) q h in goes rest q f (names_next 125 rest q whole f);
         back = λ rest q h.
-            leads_out r InAlternatives (125 ∷ rest) q e (record {
+            goes_on_out r InAlternatives (125 ∷ rest) q e (record {
               more = [];
               others = [];
               after = rest;
@@ -290,7 +290,7 @@ module _ (r : Reading) (e : r.place ≡ InAlternatives) where
         goes rest q f (NextName.at_comma name names x m t y) = absurd (omega arith)
         goes rest q f (NextName.at_byte later p m y) = absurd (no_closing_brace 125 refl p)
 
-  pub no_brace_end : r.bytes ≡ [] → NoStep r 125
+  pub no_brace_end : r.bytes ≡ [] → ReadsNoFurther r 125
   no_brace_end none rest q whole h =
       let f = names_in (125 ∷ rest) q h in goes rest q whole f (names_next 125 rest q whole f) where
         goes : (rest : List ℕ) (q : List Segment) → IsPattern q → (f : FromAlternatives r.done r.parts r.names r.bytes (125 ∷ rest) q)

@@ -4,16 +4,16 @@ use Rattle.std.proofs.lemmas.List.{append-nil}
 use Rattle.std.proofs.lemmas.List.Elements.{All-head, All-tail, All-nil, All-cons, All-push}
 use Rattle.vt_path.specs.Byte.{IsPathByte}
 use Rattle.vt_path.specs.Pattern.{IsPattern, IsPatternSegment, IsPart, IsWord, part_text, parts_text, segment_text, pattern_text, names_text}
-use Rattle.vt_path.specs.private.PatternReading.{Reading, Leads, IsBetween, IsInSet, IsInAlternatives, IsSound, Steps, NoStep, Ends, Takes, FromParts, FromSet, FromAlternatives, IsSegmentOf, parts_of}
+use Rattle.vt_path.specs.private.PatternReading.{Reading, GoesOnTo, IsBetween, IsInSet, IsInAlternatives, IsSound, ReadsOn, ReadsNoFurther, Ends, Takes, FromParts, FromSet, FromAlternatives, IsSegmentOf, parts_of}
 use Rattle.vt_path.specs.declared.pattern.Segment.{Segment}
 use Rattle.vt_path.specs.declared.pattern.Segment.TheVariants.{AnySegments, Parts}
 use Rattle.vt_path.specs.declared.pattern.Part.{Part}
 use Rattle.vt_path.specs.declared.pattern.Part.TheVariants.{Byte, AnyBytes, AnyByte, Set, Alternatives}
-use Rattle.vt_path.specs.declared.pattern_reader.Place.{Place}
-use Rattle.vt_path.specs.declared.pattern_reader.Place.TheVariants.{Between, InSet, InAlternatives}
+use Rattle.vt_path.specs.declared.pattern_reader.Position.{Position}
+use Rattle.vt_path.specs.declared.pattern_reader.Position.TheVariants.{Between, InSet, InAlternatives}
 use Rattle.vt_path.proofs.Prefixes.{Reads, Opens}
 use Rattle.vt_path.proofs.PatternNext.{good_segment, segment_with, segment_text-parts, parts_some}
-use Rattle.vt_path.proofs.PatternSteps.{leads_in, leads_out, inside_in, length-with}
+use Rattle.vt_path.proofs.PatternReadsOn.{goes_on_in, goes_on_out, inside_in, length-with}
 use Rattle.vt_path.proofs.PatternAlternatives.{length-middle}
 
 -- whole parts end a segment and the pattern
@@ -37,18 +37,18 @@ ends_parts done parts closed few segments all some short is =
     )
 
 -- the code's end
-pub ends_some : (r : Reading) (closed : Segment) → r.place ≡ Between → IsSound r → 0 < length r.parts → IsSegmentOf r.parts closed
+pub ends_some : (r : Reading) (closed : Segment) → r.position ≡ Between → IsSound r → 0 < length r.parts → IsSegmentOf r.parts closed
     → Ends r (Some (r.done ++ closed ∷ []))
 ends_some r closed e sound some is =
     let i : IsBetween r = inside_in r Between e sound in
     let u = i.used in
     let s = i.short in
     let h = ends_parts r.done r.parts closed sound.few sound.segments sound.parts some (omega arith) is in
-    (h.0, leads_out r Between [] (r.done ++ closed ∷ []) e h.1)
+    (h.0, goes_on_out r Between [] (r.done ++ closed ∷ []) e h.1)
 
-pub ends_none_empty : (r : Reading) → r.place ≡ Between → r.parts ≡ [] → Ends r None
+pub ends_none_empty : (r : Reading) → r.position ≡ Between → r.parts ≡ [] → Ends r None
 ends_none_empty r e none q whole h =
-    let f : FromParts r.done r.parts [] q = leads_in r Between [] q e h in
+    let f : FromParts r.done r.parts [] q = goes_on_in r Between [] q e h in
     let s : 0 < length r.parts + length f.more = parts_some whole f in
     let n = ap length none in
     no_more f.more f.tail (omega arith) f.text where
@@ -66,13 +66,13 @@ nothing : {X : Type 0} (xs ys : List X) (y : X) → [] ≡ xs ++ y ∷ ys → �
 nothing xs ys y e = let n : 0 ≡ length (xs ++ y ∷ ys) = ap length e in let m : length (xs ++ y ∷ ys) ≡ length xs + suc (length ys) = length-append xs (y ∷ ys) in omega arith
 
 -- in brackets and in alternatives more is wanted
-pub ends_none_inside : (r : Reading) → (r.place ≡ Between → ⊥) → Ends r None
-ends_none_inside r never q whole h = go r.place refl where
-  go : (place : Place) → r.place ≡ place → ⊥
+pub ends_none_inside : (r : Reading) → (r.position ≡ Between → ⊥) → Ends r None
+ends_none_inside r never q whole h = go r.position refl where
+  go : (position : Position) → r.position ≡ position → ⊥
   go Between e = never e
-  go InSet e = let f : FromSet r.done r.parts r.bytes [] q = leads_in r InSet [] q e h in nothing f.more f.after 93 f.text
+  go InSet e = let f : FromSet r.done r.parts r.bytes [] q = goes_on_in r InSet [] q e h in nothing f.more f.after 93 f.text
   go InAlternatives e =
-      let f : FromAlternatives r.done r.parts r.names r.bytes [] q = leads_in r InAlternatives [] q e h in
+      let f : FromAlternatives r.done r.parts r.names r.bytes [] q = goes_on_in r InAlternatives [] q e h in
       nothing (f.more ++ flat_map (λ other. 44 ∷ other) f.others) f.after 125
       (f.text ∙ sym (append_assoc f.more (flat_map (λ other. 44 ∷ other) f.others) (125 ∷ f.after)))
 
@@ -90,8 +90,8 @@ fits used b m short room (inl none) = omega arith
 fits used b m short room (inr one) = let k = room one.0 in let l = one.1 in omega arith
 
 -- whatever was read, some bytes finish a pattern
-pub pattern_opens : (r : Reading) → IsSound r → Opens IsPattern (Leads r)
-pattern_opens r sound = go r.place refl where
+pub pattern_opens : (r : Reading) → IsSound r → Opens IsPattern (GoesOnTo r)
+pattern_opens r sound = go r.position refl where
   some_part : (r : Reading) → IsSound r → IsBetween r → (parts : List Part) → r.parts ≡ parts → (rest : List ℕ) × (q : List Segment) × IsPattern q × FromParts r.done r.parts rest q
   some_part r sound i [] none =
       let s = segment_with (Byte 97 ∷ []) in
@@ -109,9 +109,9 @@ pattern_opens r sound = go r.place refl where
       let h = ends_parts r.done r.parts s.0 sound.few sound.segments sound.parts (omega arith) (omega arith) s.1 in
       ([], r.done ++ s.0 ∷ [], h.0, h.1)
 
-  go : (place : Place) → r.place ≡ place → Opens IsPattern (Leads r)
+  go : (position : Position) → r.position ≡ position → Opens IsPattern (GoesOnTo r)
   go Between e =
-      let h = some_part r sound (inside_in r Between e sound) r.parts refl in (h.0, h.1, h.2, leads_out r Between h.0 h.1 e h.3)
+      let h = some_part r sound (inside_in r Between e sound) r.parts refl in (h.0, h.1, h.2, goes_on_out r Between h.0 h.1 e h.3)
   go InSet e =
       let i : IsInSet r = inside_in r InSet e sound in
       let w = word_with r.bytes i.bytes in
@@ -128,7 +128,7 @@ pattern_opens r sound = go r.place refl where
         w.0 ++ 93 ∷ [],
         r.done ++ s.0 ∷ [],
         h.0,
-        leads_out r InSet (w.0 ++ 93 ∷ []) (r.done ++ s.0 ∷ []) e
+        goes_on_out r InSet (w.0 ++ 93 ∷ []) (r.done ++ s.0 ∷ []) e
             (record { more = w.0; after = []; text = refl; closed = h.1 }),
       )
   go InAlternatives e =
@@ -149,15 +149,15 @@ pattern_opens r sound = go r.place refl where
         w.0 ++ 125 ∷ [],
         r.done ++ s.0 ∷ [],
         h.0,
-        leads_out r InAlternatives (w.0 ++ 125 ∷ []) (r.done ++ s.0 ∷ []) e
+        goes_on_out r InAlternatives (w.0 ++ 125 ∷ []) (r.done ++ s.0 ∷ []) e
             (record { more = w.0; others = []; after = []; text = refl; closed = h.1 }),
       )
 
 -- what the first slash leaves to be read
-pub pattern_begins : (r : Reading) → r.place ≡ Between → r.done ≡ [] → r.parts ≡ [] → Reads IsPattern pattern_text (Leads r) (47 ∷ [])
+pub pattern_begins : (r : Reading) → r.position ≡ Between → r.done ≡ [] → r.parts ≡ [] → Reads IsPattern pattern_text (GoesOnTo r) (47 ∷ [])
 pattern_begins r e none empty = record {
-  on = λ rest q good t. leads_out r Between rest q e (begun rest q good t);
-  back = λ rest q h. let f : FromParts r.done r.parts rest q = leads_in r Between rest q e h in back rest q f;
+  on = λ rest q good t. goes_on_out r Between rest q e (begun rest q good t);
+  back = λ rest q h. let f : FromParts r.done r.parts rest q = goes_on_in r Between rest q e h in back rest q f;
 } where
   begun : (rest : List ℕ) (q : List Segment) → IsPattern q → 47 ∷ rest ≡ pattern_text q → FromParts r.done r.parts rest q
   begun rest [] good t = absurd (let z : 47 ∷ rest ≡ [] = t in cc)
@@ -199,25 +199,25 @@ pub pattern_slash : (q : List Segment) → IsPattern q → (rest : List ℕ) × 
 pattern_slash [] good = let n : 0 < length {A = Segment} [] = good.nonempty in absurd (omega arith)
 pattern_slash (s ∷ ss) good = (segment_text s ++ pattern_text ss, refl)
 
-pub takes_yes : (old : Reading) (b : ℕ) (new : Reading) (taken : Bool) → taken ≡ true → Takes old b new taken → Steps old b new
+pub takes_yes : (old : Reading) (b : ℕ) (new : Reading) (taken : Bool) → taken ≡ true → Takes old b new taken → ReadsOn old b new
 takes_yes old b new true e h = h
 takes_yes old b new false e h = absurd (let z : false ≡ true = e in cc)
 
-pub takes_no : (old : Reading) (b : ℕ) (new : Reading) (taken : Bool) → taken ≡ false → Takes old b new taken → NoStep old b
+pub takes_no : (old : Reading) (b : ℕ) (new : Reading) (taken : Bool) → taken ≡ false → Takes old b new taken → ReadsNoFurther old b
 takes_no old b new true e h = absurd (let z : true ≡ false = e in cc)
 takes_no old b new false e h = h
 
-pub ends_yes : (r : Reading) (o : Option (List Segment)) (q : List Segment) → o ≡ Some q → Ends r o → IsPattern q × Leads r [] q
+pub ends_yes : (r : Reading) (o : Option (List Segment)) (q : List Segment) → o ≡ Some q → Ends r o → IsPattern q × GoesOnTo r [] q
 ends_yes r None q e h = absurd (let z : None ≡ Some q = e in cc)
-ends_yes r (Some p) q e h = let same : p ≡ q = cc in let P : List Segment → Type 0 = λ x. IsPattern x × Leads r [] x in subst P same h
+ends_yes r (Some p) q e h = let same : p ≡ q = cc in let P : List Segment → Type 0 = λ x. IsPattern x × GoesOnTo r [] x in subst P same h
 
-pub ends_no : (r : Reading) (o : Option (List Segment)) → o ≡ None → Ends r o → (q : List Segment) → IsPattern q → Leads r [] q → ⊥
+pub ends_no : (r : Reading) (o : Option (List Segment)) → o ≡ None → Ends r o → (q : List Segment) → IsPattern q → GoesOnTo r [] q → ⊥
 ends_no r None e h = h
 ends_no r (Some p) e h = absurd (let z : Some p ≡ None = e in cc)
 
 -- before anything was read
 pub begin : Reading
-begin = record { done = []; parts = []; names = []; bytes = []; place = Between; used = 0 }
+begin = record { done = []; parts = []; names = []; bytes = []; position = Between; used = 0 }
 
 pub sound_begin : IsSound begin
 unfolding begin
@@ -228,6 +228,6 @@ sound_begin = record {
   inside = record { used = refl; short = omega arith; no_names = refl; no_bytes = refl };
 }
 
-pub begins : Reads IsPattern pattern_text (Leads begin) (47 ∷ [])
+pub begins : Reads IsPattern pattern_text (GoesOnTo begin) (47 ∷ [])
 unfolding begin
 begins = pattern_begins begin refl refl refl

@@ -4,15 +4,15 @@ use Rattle.std.proofs.lemmas.List.{append-nil}
 use Rattle.std.proofs.lemmas.List.Elements.{All-head, All-push}
 use Rattle.vt_path.specs.Byte.{IsPathByte}
 use Rattle.vt_path.specs.Pattern.{IsPattern, IsPart, IsWord, part_text, parts_text}
-use Rattle.vt_path.specs.private.PatternReading.{Reading, Leads, IsInSet, IsSound, Steps, NoStep, FromParts, FromSet}
+use Rattle.vt_path.specs.private.PatternReading.{Reading, GoesOnTo, IsInSet, IsSound, ReadsOn, ReadsNoFurther, FromParts, FromSet}
 use Rattle.vt_path.specs.declared.pattern.Segment.{Segment}
 use Rattle.vt_path.specs.declared.pattern.Part.{Part}
 use Rattle.vt_path.specs.declared.pattern.Part.TheVariants.{Set}
-use Rattle.vt_path.specs.declared.pattern_reader.Place.TheVariants.{Between, InSet}
+use Rattle.vt_path.specs.declared.pattern_reader.Position.TheVariants.{Between, InSet}
 use Rattle.vt_path.proofs.ByteLemmas.{no_closing_bracket}
 use Rattle.vt_path.proofs.Lists.{All-prefix, All-back, All-middle}
 use Rattle.vt_path.proofs.PatternNext.{parts_good, parts_short, same_begun}
-use Rattle.vt_path.proofs.PatternSteps.{leads_in, leads_out, inside_in, inside_out, length-with}
+use Rattle.vt_path.proofs.PatternReadsOn.{goes_on_in, goes_on_out, inside_in, inside_out, length-with}
 
 -- what bytes and an end go on with, by their first byte
 pub data NextInside (end b : ℕ) (rest more after : List ℕ) : Type 0 where
@@ -31,9 +31,9 @@ next_inside end b rest (c ∷ cs) after all e =
     let y : rest ≡ cs ++ end ∷ after = cc in
     NextInside.at_byte cs (subst IsPathByte x (All-head IsPathByte c cs all)) (ap (λ z. z ∷ cs) x) y
 
-module _ (r : Reading) (e : r.place ≡ InSet) where
-  set_in : (rest : List ℕ) (q : List Segment) → Leads r rest q → FromSet r.done r.parts r.bytes rest q
-  set_in rest q h = leads_in r InSet rest q e h
+module _ (r : Reading) (e : r.position ≡ InSet) where
+  set_in : (rest : List ℕ) (q : List Segment) → GoesOnTo r rest q → FromSet r.done r.parts r.bytes rest q
+  set_in rest q h = goes_on_in r InSet rest q e h
 
   -- the brackets, whole
   set_word : {rest : List ℕ} {q : List Segment} → IsPattern q → (h : FromSet r.done r.parts r.bytes rest q) → IsWord (r.bytes ++ h.more)
@@ -54,11 +54,11 @@ module _ (r : Reading) (e : r.place ≡ InSet) where
   set_next b rest q good h = next_inside 93 b rest h.more h.after (All-back IsPathByte r.bytes h.more (set_word good h).bytes) h.text
 
   -- one byte more in brackets
-  pub set_byte_steps : (b : ℕ) → IsSound r → IsPathByte b → r.used + 2 ≤ 64
-      → Steps r b (record { done = r.done; parts = r.parts; names = r.names; bytes = r.bytes ++ b ∷ []; place = r.place; used = r.used + 1 })
-  set_byte_steps b sound path room =
+  pub set_byte_reads_on : (b : ℕ) → IsSound r → IsPathByte b → r.used + 2 ≤ 64
+      → ReadsOn r b (record { done = r.done; parts = r.parts; names = r.names; bytes = r.bytes ++ b ∷ []; position = r.position; used = r.used + 1 })
+  set_byte_reads_on b sound path room =
       let i : IsInSet r = inside_in r InSet e sound in
-      let new : Reading = record { done = r.done; parts = r.parts; names = r.names; bytes = r.bytes ++ b ∷ []; place = r.place; used = r.used + 1 } in
+      let new : Reading = record { done = r.done; parts = r.parts; names = r.names; bytes = r.bytes ++ b ∷ []; position = r.position; used = r.used + 1 } in
       let n : length (r.bytes ++ b ∷ []) ≡ length r.bytes + 1 = length-append r.bytes (b ∷ []) in
       record {
         sound = record {
@@ -75,10 +75,10 @@ module _ (r : Reading) (e : r.place ≡ InSet) where
         };
         on = λ rest q whole h.
             let f = set_in (b ∷ rest) q h in
-            leads_out new InSet rest q e (goes b rest q path f (set_next b rest q whole f));
+            goes_on_out new InSet rest q e (goes b rest q path f (set_next b rest q whole f));
         back = λ rest q h.
-            let f : FromSet r.done r.parts (r.bytes ++ b ∷ []) rest q = leads_in new InSet rest q e h in
-            leads_out r InSet (b ∷ rest) q e (record {
+            let f : FromSet r.done r.parts (r.bytes ++ b ∷ []) rest q = goes_on_in new InSet rest q e h in
+            goes_on_out r InSet (b ∷ rest) q e (record {
               more = b ∷ f.more;
               after = f.after;
               text = ap (λ x. b ∷ x) f.text;
@@ -97,7 +97,7 @@ module _ (r : Reading) (e : r.place ≡ InSet) where
               (ap (λ (x : List ℕ). r.parts ++ Set (r.bytes ++ x) ∷ []) m ∙ ap (λ (x : List ℕ). r.parts ++ Set x ∷ []) (sym (append_assoc r.bytes (b ∷ []) later))) f.closed;
         }
 
-  pub no_set_byte_full : (b : ℕ) → IsSound r → IsPathByte b → 64 < r.used + 2 → NoStep r b
+  pub no_set_byte_full : (b : ℕ) → IsSound r → IsPathByte b → 64 < r.used + 2 → ReadsNoFurther r b
   no_set_byte_full b sound path full rest q whole h =
       let f = set_in (b ∷ rest) q h in goes b rest q sound path full whole f (set_next b rest q whole f) where
         goes : (b : ℕ) (rest : List ℕ) (q : List Segment) → IsSound r → IsPathByte b → 64 < r.used + 2 → IsPattern q → (f : FromSet r.done r.parts r.bytes (b ∷ rest) q)
@@ -110,7 +110,7 @@ module _ (r : Reading) (e : r.place ≡ InSet) where
             let n : length f.more ≡ suc (length later) = ap length m in
             omega arith
 
-  pub no_set_other : (b : ℕ) → (IsPathByte b → ⊥) → (b ≡ 93 → ⊥) → NoStep r b
+  pub no_set_other : (b : ℕ) → (IsPathByte b → ⊥) → (b ≡ 93 → ⊥) → ReadsNoFurther r b
   no_set_other b path end rest q whole h =
       let f = set_in (b ∷ rest) q h in goes (set_next b rest q whole f) where
         goes : {more after : List ℕ} → NextInside 93 b rest more after → ⊥
@@ -118,9 +118,9 @@ module _ (r : Reading) (e : r.place ≡ InSet) where
         goes (NextInside.at_byte later p m y) = path p
 
   -- the closing bracket
-  pub set_end_steps : IsSound r → 0 < length r.bytes
-      → Steps r 93 (record { done = r.done; parts = r.parts ++ Set r.bytes ∷ []; names = r.names; bytes = []; place = Between; used = r.used + 1 })
-  set_end_steps sound some =
+  pub set_end_reads_on : IsSound r → 0 < length r.bytes
+      → ReadsOn r 93 (record { done = r.done; parts = r.parts ++ Set r.bytes ∷ []; names = r.names; bytes = []; position = Between; used = r.used + 1 })
+  set_end_reads_on sound some =
       let i : IsInSet r = inside_in r InSet e sound in
       let n : length (parts_text (r.parts ++ Set r.bytes ∷ [])) ≡ length (parts_text r.parts) + length (part_text (Set r.bytes)) = length-with r.parts (Set r.bytes) in
       let k : length (r.bytes ++ 93 ∷ []) ≡ length r.bytes + 1 = length-append r.bytes (93 ∷ []) in
@@ -133,7 +133,7 @@ module _ (r : Reading) (e : r.place ≡ InSet) where
         };
         on = λ rest q whole h. let f = set_in (93 ∷ rest) q h in goes rest q f (set_next 93 rest q whole f);
         back = λ rest q h.
-            leads_out r InSet (93 ∷ rest) q e (record {
+            goes_on_out r InSet (93 ∷ rest) q e (record {
               more = [];
               after = rest;
               text = refl;
@@ -149,7 +149,7 @@ module _ (r : Reading) (e : r.place ≡ InSet) where
             subst P (sym y) c
         goes rest q f (NextInside.at_byte later p m y) = absurd (no_closing_bracket 93 refl p)
 
-  pub no_set_end : r.bytes ≡ [] → NoStep r 93
+  pub no_set_end : r.bytes ≡ [] → ReadsNoFurther r 93
   no_set_end none rest q whole h =
       let f = set_in (93 ∷ rest) q h in goes rest q whole f (set_next 93 rest q whole f) where
         goes : (rest : List ℕ) (q : List Segment) → IsPattern q → (f : FromSet r.done r.parts r.bytes (93 ∷ rest) q) → NextInside 93 93 rest f.more f.after → ⊥

@@ -1,4 +1,4 @@
-//! Inner paths, under which a program keeps bodies, functions and names.
+//! Inner paths, under which a program keeps bodies, functions and names, and stops of live loops.
 
 ghost use Rattle.std.specs.Prelude.{◌≡◌, IfOk, IsTrue};
 ghost use Rattle.vt_frac.specs.Names.{is_symbol_name};
@@ -19,6 +19,8 @@ pub enum InnerKind {
     Named,
     /// `/!loop/NAME`: the thread of a live loop.
     Looped,
+    /// `/!stop/NAME`: that a live loop is to stop.
+    Stop,
 }
 
 impl InnerKind {
@@ -31,6 +33,7 @@ impl InnerKind {
             InnerKind::Def => b"!def",
             InnerKind::Named => b"!name",
             InnerKind::Looped => b"!loop",
+            InnerKind::Stop => b"!stop",
         }
     }
 }

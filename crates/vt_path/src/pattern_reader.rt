@@ -53,7 +53,7 @@ fn after_slash(alloc: Global, rest: &[u8]) -> Result<Pattern, PathFault>
 
 /// Where the reader stands in a segment.
 #[derive(Clone, Copy, Debug)]
-enum Place {
+enum Position {
     /// Between two parts.
     Between,
     /// In brackets.
@@ -70,7 +70,7 @@ struct PatternReader {
     parts: Vec<Part>,
     names: Vec<Name>,
     bytes: Vec<u8>,
-    place: Place,
+    position: Position,
     /// How many bytes of the segment were read.
     used: usize,
 }
@@ -80,14 +80,14 @@ impl PatternReader {
         ensures sound { IsSound (reading result) }
         ensures done { result.done.items ≡ [] }
         ensures parts { result.parts.items ≡ [] }
-        ensures place { result.place ≡ Place.Between }
+        ensures position { result.position ≡ Position.Between }
     {
         PatternReader {
             done: Vec::new(alloc),
             parts: Vec::new(alloc),
             names: Vec::new(alloc),
             bytes: Vec::new(alloc),
-            place: Place::Between,
+            position: Position::Between,
             used: 0,
         }
     }
@@ -97,22 +97,22 @@ impl PatternReader {
         requires { IsSound (reading self.old) }
         ensures { IfOk result (Takes (reading self.old) byte (reading self.new)) }
     {
-        match self.place {
-            Place::Between => self.takes_between(alloc, byte),
-            Place::InSet => self.takes_in_set(alloc, byte),
-            Place::InAlternatives => self.takes_in_alternatives(alloc, byte),
+        match self.position {
+            Position::Between => self.takes_between(alloc, byte),
+            Position::InSet => self.takes_in_set(alloc, byte),
+            Position::InAlternatives => self.takes_in_alternatives(alloc, byte),
         }
     }
 
     fn takes_between(&mut self, alloc: Global, byte: u8) -> Result<bool, NoMemory>
         requires sound { IsSound (reading self.old) }
-        requires place { self.old.place ≡ Place.Between }
+        requires position { self.old.position ≡ Position.Between }
         ensures { IfOk result (Takes (reading self.old) byte (reading self.new)) }
     {
         match byte {
             b'/' => self.closes_segment(alloc),
-            b'[' => Ok(self.opens(Place::InSet)),
-            b'{' => Ok(self.opens(Place::InAlternatives)),
+            b'[' => Ok(self.opens(Position::InSet)),
+            b'{' => Ok(self.opens(Position::InAlternatives)),
             b'*' => self.pushes(Part::AnyBytes),
             b'?' => self.pushes(Part::AnyByte),
             _ if is_path_byte(byte) => self.pushes(Part::Byte(byte)),
@@ -123,7 +123,7 @@ impl PatternReader {
     /// Adds a part that is written as one byte, if there is room.
     fn pushes(&mut self, part: Part) -> Result<bool, NoMemory>
         requires sound { IsSound (reading self.old) }
-        requires place { self.old.place ≡ Place.Between }
+        requires position { self.old.position ≡ Position.Between }
         requires part { IsPart part }
         ensures { IfOk result (λ taken. (byte : ℕ) → part_text part ≡ byte ∷ [] → Takes (reading self.old) byte (reading self.new) taken) }
     {
@@ -136,15 +136,15 @@ impl PatternReader {
     }
 
     /// Begins brackets or alternatives, if there is room for their least form.
-    fn opens(&mut self, place: Place) -> bool
+    fn opens(&mut self, position: Position) -> bool
         requires sound { IsSound (reading self.old) }
-        requires place { self.old.place ≡ Place.Between }
-        ensures { (byte : ℕ) → IsOpening place byte → Takes (reading self.old) byte (reading self.new) result }
+        requires position { self.old.position ≡ Position.Between }
+        ensures { (byte : ℕ) → IsOpening position byte → Takes (reading self.old) byte (reading self.new) result }
     {
         if self.used + 3 > MOST_BYTES {
             return false;
         }
-        self.place = place;
+        self.position = position;
         self.used += 1;
         true
     }
@@ -152,7 +152,7 @@ impl PatternReader {
     /// Ends the segment that is being read, and begins another, if a pattern may have both.
     fn closes_segment(&mut self, alloc: Global) -> Result<bool, NoMemory>
         requires sound { IsSound (reading self.old) }
-        requires place { self.old.place ≡ Place.Between }
+        requires position { self.old.position ≡ Position.Between }
         ensures { IfOk result (Takes (reading self.old) 47 (reading self.new)) }
     {
         if self.parts.is_empty() || self.done.len() + 1 == MOST_SEGMENTS {
@@ -166,7 +166,7 @@ impl PatternReader {
 
     fn takes_in_set(&mut self, alloc: Global, byte: u8) -> Result<bool, NoMemory>
         requires sound { IsSound (reading self.old) }
-        requires place { self.old.place ≡ Place.InSet }
+        requires position { self.old.position ≡ Position.InSet }
         ensures { IfOk result (Takes (reading self.old) byte (reading self.new)) }
     {
         if byte == b']' {
@@ -182,7 +182,7 @@ impl PatternReader {
 
     fn closes_set(&mut self, alloc: Global) -> Result<bool, NoMemory>
         requires sound { IsSound (reading self.old) }
-        requires place { self.old.place ≡ Place.InSet }
+        requires position { self.old.position ≡ Position.InSet }
         ensures { IfOk result (Takes (reading self.old) 93 (reading self.new)) }
     {
         if self.bytes.is_empty() {
@@ -191,14 +191,14 @@ impl PatternReader {
         let bytes = Name::of(alloc, self.bytes.as_slice())?;
         self.parts.push(Part::Set(bytes))?;
         self.bytes.clear();
-        self.place = Place::Between;
+        self.position = Position::Between;
         self.used += 1;
         Ok(true)
     }
 
     fn takes_in_alternatives(&mut self, alloc: Global, byte: u8) -> Result<bool, NoMemory>
         requires sound { IsSound (reading self.old) }
-        requires place { self.old.place ≡ Place.InAlternatives }
+        requires position { self.old.position ≡ Position.InAlternatives }
         ensures { IfOk result (Takes (reading self.old) byte (reading self.new)) }
     {
         if byte == b',' {
@@ -218,7 +218,7 @@ impl PatternReader {
     /// Ends the alternative that is being read, and begins another, if there is room.
     fn closes_alternative(&mut self, alloc: Global) -> Result<bool, NoMemory>
         requires sound { IsSound (reading self.old) }
-        requires place { self.old.place ≡ Place.InAlternatives }
+        requires position { self.old.position ≡ Position.InAlternatives }
         ensures { IfOk result (Takes (reading self.old) 44 (reading self.new)) }
     {
         if self.bytes.is_empty() || self.used + 3 > MOST_BYTES {
@@ -233,7 +233,7 @@ impl PatternReader {
 
     fn closes_alternatives(&mut self, alloc: Global) -> Result<bool, NoMemory>
         requires sound { IsSound (reading self.old) }
-        requires place { self.old.place ≡ Place.InAlternatives }
+        requires position { self.old.position ≡ Position.InAlternatives }
         ensures { IfOk result (Takes (reading self.old) 125 (reading self.new)) }
     {
         if self.bytes.is_empty() {
@@ -244,15 +244,15 @@ impl PatternReader {
         let names = mem::replace(&mut self.names, Vec::new(alloc));
         self.parts.push(Part::Alternatives(Names { names }))?;
         self.bytes.clear();
-        self.place = Place::Between;
+        self.position = Position::Between;
         self.used += 1;
         Ok(true)
     }
 
     fn is_between(&self) -> bool
-        ensures { IsTrue result ↔ (self.now.place ≡ Place.Between) }
+        ensures { IsTrue result ↔ (self.now.position ≡ Position.Between) }
     {
-        matches!(self.place, Place::Between)
+        matches!(self.position, Position::Between)
     }
 
     /// The pattern that was read, if no more is wanted.

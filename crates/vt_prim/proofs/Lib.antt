@@ -1,4 +1,5 @@
 pub mod ClimbLemmas
 pub mod ExactLemmas
+pub mod InvertLemmas
 pub mod SortLemmas
 pub mod WordLists

@@ -3,7 +3,7 @@
 ghost use Rattle.std.specs.Prelude.{◌≡◌, Ok, Err, IfOk, IfErr, Some};
 ghost use Rattle.std.specs.Option.{option_copied};
 ghost use Rattle.vt_ring.specs.Arguments.{between};
-ghost use Rattle.vt_ring.specs.Signatures.{number_argument, number_or, one_of, one_or_none_of, one_or_two_of, option_named, ring_argument, symbol_argument, two_of, two_or_three_of, whole_or};
+ghost use Rattle.vt_ring.specs.Signatures.{number_argument, number_or, one_of, one_or_none_of, one_or_two_of, option_named, ring_argument, symbol_argument, three_of, two_of, two_or_three_of, whole_or};
 
 use vt_frac::{Frac, Name};
 use vt_ring::whole_argument;
@@ -51,6 +51,17 @@ pub(crate) fn one_or_two(args: &[Value]) -> Result<(&Value, Option<&Value>), Fau
     match args {
         [a] => Ok((a, None)),
         [a, b] => Ok((a, Some(b))),
+        _ => Err(FaultKind::WrongCount),
+    }
+}
+
+/// The three arguments.
+pub(crate) fn three(args: &[Value]) -> Result<(&Value, &Value, &Value), FaultKind>
+    ensures ok { IfOk result (λ a. three_of args.now ≡ Ok (a.0.now, a.1.now, a.2.now)) }
+    ensures err { IfErr result (λ kind. three_of args.now ≡ Err kind) }
+{
+    match args {
+        [a, b, c] => Ok((a, b, c)),
         _ => Err(FaultKind::WrongCount),
     }
 }

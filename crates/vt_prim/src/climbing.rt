@@ -1,10 +1,10 @@
 //! Notes one after the other, each some half tones above the one before.
 
-ghost use Rattle.std.specs.Prelude.{◌≡◌, ◌<◌, List, ℕ, ◌∷◌, [], ◌++◌, Ok, Err, IfOk, IfErr, IsOk, OnOk};
+ghost use Rattle.std.specs.Prelude.{◌≡◌, ◌<◌, ◌/◌, List, ℕ, ◌∷◌, [], ◌++◌, length, Ok, Err, IfOk, IfErr, IsOk, OnOk};
 ghost use Rattle.vt_value.specs.Answers.{Gives};
-ghost use Rattle.vt_ring.specs.NoteCalls.{intervals_above, raised, steps_up, times};
+ghost use Rattle.vt_ring.specs.NoteCalls.{climbed, first_steps, intervals_above, raised, steps_up, times};
 ghost use Rattle.vt_value.specs.declared.fault.FaultKind.{FaultKind};
-ghost use Rattle.vt_prim.specs.private.Climbing.{behind, climbed};
+ghost use Rattle.vt_prim.specs.private.Climbing.{behind};
 ghost use Rattle.vt_prim.specs.private.Adding.{answer_of, value_of};
 
 use crate::adding::{Number, plus, value_of};
@@ -34,7 +34,7 @@ fn climbed(note: Number, steps: &[u8]) -> Result<Number, FaultKind>
 }
 
 /// The note at the end of the steps, taken so many times.
-fn climbed_times(note: Number, steps: &[u8], count: u32) -> Result<Number, FaultKind>
+pub(crate) fn climbed_times(note: Number, steps: &[u8], count: u32) -> Result<Number, FaultKind>
     ensures { answer_of result ≡ climbed (value_of note) (times count steps.now) }
 {
     let mut top = note;
@@ -44,6 +44,23 @@ fn climbed_times(note: Number, steps: &[u8], count: u32) -> Result<Number, Fault
         left -= 1;
     }
     Ok(top)
+}
+
+/// How often all of so many things come round in a count.
+pub(crate) fn rounds(count: u32, things: usize) -> u32
+    requires { 0 < things }
+    ensures { result ≡ count / things }
+{
+    (count as usize / things) as u32
+}
+
+/// The note at the end of the first steps, so many, which go on from the first again after the last.
+pub(crate) fn climbed_first(note: Number, steps: &[u8], count: u32) -> Result<Number, FaultKind>
+    requires { 0 < length steps.now }
+    ensures { answer_of result ≡ climbed (value_of note) (first_steps count steps.now) }
+{
+    let top = climbed_times(note, steps, rounds(count, steps.len()))?;
+    climbed(top, &steps[..count as usize % steps.len()])
 }
 
 /// Puts the note and those of the steps behind the others, all but the last, which it gives.
@@ -63,7 +80,7 @@ fn push_steps(notes: &mut Items, note: &Number, steps: &[u8]) -> Result<Number, 
 }
 
 /// Puts a note behind the others.
-fn push_note(notes: &mut Items, note: &Number) -> Result<(), NoMemory>
+pub(crate) fn push_note(notes: &mut Items, note: &Number) -> Result<(), NoMemory>
     ensures { OnOk result (notes.new ≡ notes.old ++ value_of note.now ∷ []) }
 {
     notes.push(value_of(*note))

@@ -6,6 +6,7 @@ mod arguments;
 mod climbing;
 mod counting;
 mod draws;
+mod inverting;
 mod lists;
 mod making;
 mod notes;

@@ -1,16 +1,16 @@
 //! The calls on notes.
 
-ghost use Rattle.std.specs.Prelude.{◌≡◌, Ok, Err, IfOk, IfErr, Some};
+ghost use Rattle.std.specs.Prelude.{◌≡◌, ◌<◌, length, Ok, Err, IfOk, IfErr, Some};
 ghost use Rattle.vt_value.specs.Answers.{Gives};
 ghost use Rattle.vt_table.specs.Lists.{chord_intervals, scale_steps};
 ghost use Rattle.vt_table.specs.Notes.{note_number};
-ghost use Rattle.vt_ring.specs.NoteCalls.{chord_call, note_call, octs_call, scale_call};
+ghost use Rattle.vt_ring.specs.NoteCalls.{chord_call, degree_call, note_call, octs_call, scale_call};
 ghost use Rattle.vt_ring.specs.Signatures.{a_note_and_a_whole, named_note, note_argument};
 ghost use Rattle.vt_prim.specs.private.Adding.{answer_of};
 
 use crate::adding::{Number, value_of};
-use crate::arguments::{between, one, option_named, symbol_argument, two, whole_or};
-use crate::climbing::{notes_above, notes_up};
+use crate::arguments::{between, one, option_named, symbol_argument, three, two, whole_or};
+use crate::climbing::{climbed_first, notes_above, notes_up};
 use crate::signatures::integer;
 use std::alloc::Global;
 use vt_frac::Name;
@@ -43,9 +43,25 @@ pub(crate) fn scale_call(
     let number = whole_or(integer(1), option_named(b"num_octaves", options))?;
     let tonic = note?;
     let steps = steps_of(name)?;
-    let octaves = between(1, 8, number)?;
+    let octaves = between(1, 16, number)?;
     let notes = notes_up(alloc, &tonic, steps, octaves)?;
     Ok(Value::Ring(notes))
+}
+
+/// `degree n, V, :x`
+#[tactic(auto, unfolding(vt_ring::specs::NoteCalls::degree_call))]
+pub(crate) fn degree_call(args: &[Value]) -> Result<Value, ValueFault>
+    ensures { Gives (degree_call args.now) result }
+{
+    let (n, v, x) = three(args)?;
+    let number = whole_argument(n)?;
+    let note = note_argument(v)?;
+    let name = symbol_argument(x)?;
+    let degree = between(1, 64, number)?;
+    let tonic = note?;
+    let steps = steps_of(name)?;
+    let reached = climbed_first(tonic, steps, degree.saturating_sub(1))?;
+    Ok(value_of(reached))
 }
 
 /// `chord V, :x`
@@ -69,7 +85,7 @@ pub(crate) fn octs_call(alloc: Global, args: &[Value]) -> Result<Value, ValueFau
 {
     let (note, number) = a_note_and_a_whole(args)?;
     let tonic = note?;
-    let count = between(1, 16, number)?;
+    let count = between(1, 32, number)?;
     let notes = notes_up(alloc, &tonic, &[12], count.saturating_sub(1))?;
     Ok(Value::Ring(notes))
 }
@@ -117,6 +133,7 @@ fn a_note_and_a_whole(args: &[Value]) -> Result<(Result<Number, FaultKind>, Inte
 /// The steps of the scale of this name.
 fn steps_of(name: &[u8]) -> Result<&'static [u8], FaultKind>
     ensures ok { IfOk result (λ steps. scale_steps name.now ≡ Some steps.now) }
+    ensures some { IfOk result (λ steps. 0 < length steps.now) }
     ensures err { IfErr result (λ kind. (scale_steps name.now ≡ None) × (kind ≡ FaultKind.BadValue)) }
 {
     match scale_of(name) {

@@ -7,8 +7,9 @@ ghost use Rattle.vt_ring.specs.CallTable.{IsPureOrRandom, value_of_call, value_o
 ghost use Rattle.vt_ring.specs.Streams.{moved_on, words_from};
 
 use crate::counting::{count_call, length_call, size_call, sum_call};
+use crate::inverting::chord_invert_call;
 use crate::making::{bools_call, knit_call, line_call, range_call, ring_call, spread_call};
-use crate::notes::{chord_call, note_call, octs_call, scale_call};
+use crate::notes::{chord_call, degree_call, note_call, octs_call, scale_call};
 use crate::numbers::{
     abs_call, ceil_call, dec_call, even_call, floor_call, inc_call, max_call, min_call, odd_call,
     round_call,
@@ -61,16 +62,20 @@ fn named(
 {
     match name {
         CallName::Abs => abs_call(alloc, args),
+        CallName::At => Err(ValueFault::Fault(FaultKind::UnknownName)),
         CallName::Bools => bools_call(alloc, args),
         CallName::Butlast => butlast_call(alloc, args),
         CallName::Ceil => ceil_call(args),
         CallName::Choose => choose_call(alloc, args, stream),
         CallName::Chord => chord_call(alloc, args),
+        CallName::ChordInvert => chord_invert_call(alloc, args),
         CallName::Count => count_call(args),
         CallName::Cue => Err(ValueFault::Fault(FaultKind::UnknownName)),
         CallName::CurrentBpm => Err(ValueFault::Fault(FaultKind::UnknownName)),
         CallName::Dec => dec_call(alloc, args),
         CallName::Define => Err(ValueFault::Fault(FaultKind::UnknownName)),
+        CallName::Degree => degree_call(args),
+        CallName::Density => Err(ValueFault::Fault(FaultKind::UnknownName)),
         CallName::Dice => dice_call(args, stream),
         CallName::Drop => drop_call(alloc, args),
         CallName::DropLast => drop_last_call(alloc, args),
@@ -98,6 +103,8 @@ fn named(
         CallName::OneIn => one_in_call(args, stream),
         CallName::Pick => pick_call(alloc, args, stream),
         CallName::Play => Err(ValueFault::Fault(FaultKind::UnknownName)),
+        CallName::PlayPattern => Err(ValueFault::Fault(FaultKind::UnknownName)),
+        CallName::PlayPatternTimed => Err(ValueFault::Fault(FaultKind::UnknownName)),
         CallName::Print => Err(ValueFault::Fault(FaultKind::UnknownName)),
         CallName::Puts => Err(ValueFault::Fault(FaultKind::UnknownName)),
         CallName::Rand => rand_call(args, stream),

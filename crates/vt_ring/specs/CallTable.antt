@@ -4,7 +4,7 @@ use Rattle.std.specs.Option.{option_map}
 use Rattle.vt_rand.specs.Draw.{RandomStream}
 use Rattle.vt_table.specs.Calls.{calls}
 use Rattle.vt_table.specs.declared.calls.CallName.{CallName}
-use Rattle.vt_table.specs.declared.calls.CallName.TheVariants.{Abs, Bools, Butlast, Ceil, Choose, Chord, Count, Dec, Dice, Drop, DropLast, Even, First, Floor, Inc, Knit, Last, Length, Line, Max, Min, Mirror, Note, Octs, Odd, OneIn, Pick, Rand, RandI, Range, Reflect, Repeat, Reverse, Ring, Rotate, Round, Rrand, RrandI, Scale, Shuffle, Size, Sort, Spread, Stretch, Sum, Take, TakeLast}
+use Rattle.vt_table.specs.declared.calls.CallName.TheVariants.{Abs, Bools, Butlast, Ceil, Choose, Chord, ChordInvert, Count, Dec, Degree, Dice, Drop, DropLast, Even, First, Floor, Inc, Knit, Last, Length, Line, Max, Min, Mirror, Note, Octs, Odd, OneIn, Pick, Rand, RandI, Range, Reflect, Repeat, Reverse, Ring, Rotate, Round, Rrand, RrandI, Scale, Shuffle, Size, Sort, Spread, Stretch, Sum, Take, TakeLast}
 use Rattle.vt_value.specs.declared.fault.FaultKind.TheVariants.{UnknownName}
 use Rattle.vt_value.specs.declared.value.Value.{Value}
 use Rattle.vt_value.specs.Limits.{IsWithin, AreWithin}
@@ -13,7 +13,7 @@ use Rattle.vt_ring.specs.Signatures.{Options}
 use Rattle.vt_ring.specs.Streams.{words_from}
 use Rattle.vt_ring.specs.CountCalls.{count_call, length_call, size_call, sort_call, sum_call}
 use Rattle.vt_ring.specs.MakeCalls.{bools_call, knit_call, line_call, range_call, ring_call, spread_call}
-use Rattle.vt_ring.specs.NoteCalls.{chord_call, note_call, octs_call, scale_call}
+use Rattle.vt_ring.specs.NoteCalls.{chord_call, chord_invert_call, degree_call, note_call, octs_call, scale_call}
 use Rattle.vt_ring.specs.NumberCalls.{abs_call, ceil_call, dec_call, even_call, floor_call, inc_call, max_call, min_call, odd_call, round_call}
 use Rattle.vt_ring.specs.PartCalls.{butlast_call, drop_call, drop_last_call, first_call, last_call, mirror_call, reflect_call, repeat_call, reverse_call, rotate_call, stretch_call, take_call, take_last_call}
 use Rattle.vt_ring.specs.RandomCalls.{choose_call, dice_call, one_in_call, pick_call, rand_call, rand_i_call, rrand_call, rrand_i_call, shuffle_call}
@@ -30,8 +30,10 @@ value_of_call Butlast args options words = undrawn (butlast_call args)
 value_of_call Ceil args options words = undrawn (ceil_call args)
 value_of_call Choose args options words = choose_call args words
 value_of_call Chord args options words = undrawn (chord_call args)
+value_of_call ChordInvert args options words = undrawn (chord_invert_call args)
 value_of_call Count args options words = undrawn (count_call args)
 value_of_call Dec args options words = undrawn (dec_call args)
+value_of_call Degree args options words = undrawn (degree_call args)
 value_of_call Dice args options words = dice_call args words
 value_of_call Drop args options words = undrawn (drop_call args)
 value_of_call DropLast args options words = undrawn (drop_last_call args)

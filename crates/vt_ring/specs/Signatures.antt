@@ -42,6 +42,11 @@ one_or_two_of (a ∷ []) = Ok (a, None)
 one_or_two_of (a ∷ b ∷ []) = Ok (a, Some b)
 one_or_two_of _ = Err WrongCount
 
+-- three arguments
+abbrev pub three_of : List Value → Result (Value × Value × Value) FaultKind
+three_of (a ∷ b ∷ c ∷ []) = Ok (a, b, c)
+three_of _ = Err WrongCount
+
 -- two arguments, and perhaps a third
 abbrev pub two_or_three_of : List Value → Result (Value × Value × Option Value) FaultKind
 two_or_three_of (a ∷ b ∷ []) = Ok (a, b, None)
@@ -153,3 +158,12 @@ a_note_and_a_whole args =
     and_then (note_argument v) (λ note.
     and_then (whole_argument n) (λ number.
     Ok (note, number))))
+
+-- `n, V, :x`, where V is to be a note
+abbrev pub a_whole_a_note_and_a_symbol : List Value → Result (ℤ × Result Value FaultKind × List ℕ) FaultKind
+a_whole_a_note_and_a_symbol args =
+    and_then (three_of args) (λ (n, v, x).
+    and_then (whole_argument n) (λ number.
+    and_then (note_argument v) (λ note.
+    and_then (symbol_argument x) (λ name.
+    Ok (number, note, name)))))

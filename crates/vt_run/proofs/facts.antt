@@ -9,7 +9,9 @@ pub mod NameFacts
 pub mod NoteFacts
 pub mod OperatorFacts
 pub mod PairFacts
+pub mod PatternFacts
 pub mod TextFacts
 pub mod TextsKept
+pub mod TimedFacts
 pub mod TreeFacts
 pub mod TurnFacts

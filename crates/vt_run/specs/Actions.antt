@@ -1,9 +1,10 @@
 -- The actions of a thread, each at its place. Rests and waits are after FARM 2014 and the Sonic Pi tutorial, chapters 5 and 10; micro steps, faults and ends are own.
-use Rattle.std.specs.Prelude.{ℕ, ◌+◌, List, [], ◌∷◌, Bool, true, cond, Option, Some, None, Result, Ok, Err, slice_get}
+use Rattle.std.specs.Prelude.{ℕ, ◌+◌, List, [], ◌∷◌, Bool, true, false, ◌&&◌, bytes_eq, cond, Option, Some, None, Result, Ok, Err, slice_get}
 use Rattle.vt_frac.specs.Arithmetic.{sum_of}
 use Rattle.vt_frac.specs.Fraction.{Fraction}
-use Rattle.vt_path.specs.Inner.{inner_of}
-use Rattle.vt_path.specs.declared.inner_path.InnerKind.TheVariants.{Named as NamedPath, Looped as LoopedPath}
+use Rattle.vt_path.specs.Inner.{inner_of, kind_word}
+use Rattle.vt_path.specs.Match.{literal_of}
+use Rattle.vt_path.specs.declared.inner_path.InnerKind.TheVariants.{Named as NamedPath, Looped as LoopedPath, Stop as StopPath}
 use Rattle.vt_path.specs.declared.pattern.Segment.{Segment}
 use Rattle.vt_ring.specs.Exact.{is_positive}
 use Rattle.vt_value.specs.declared.comparison.OrderOp.TheVariants.{Ge}
@@ -17,9 +18,9 @@ use Rattle.vt_run.specs.declared.action.Action.TheVariants.{Emit, Rest, Read, Wa
 use Rattle.vt_run.specs.declared.action.Answer.{Answer}
 use Rattle.vt_run.specs.declared.action.Answer.TheVariants.{Nothing, Found}
 use Rattle.vt_run.specs.declared.action.EndReason.{EndReason}
-use Rattle.vt_run.specs.declared.action.EndReason.TheVariants.{Faulted}
+use Rattle.vt_run.specs.declared.action.EndReason.TheVariants.{Faulted, Stopped}
 use Rattle.vt_run.specs.declared.role.Role.{Role}
-use Rattle.vt_run.specs.declared.role.Role.TheVariants.{Plain, Named, Looped}
+use Rattle.vt_run.specs.declared.role.Role.TheVariants.{Plain, Named, Looped, Timed}
 use Rattle.vt_run.specs.declared.state.State.{State}
 use Rattle.vt_run.specs.Costs.{emit_cost}
 use Rattle.vt_run.specs.Environment.{Env}
@@ -69,32 +70,36 @@ answered (Some answer) st go = go answer (record st { used = st.used + 1 })
 abbrev pub reads : List Segment → Env → State → (Answer → State → Ran) → Ran
 reads pattern env st go = does 1 (Read (place_of env st) pattern) (answered (slice_get env.answers st.used) (acted st) go)
 
--- the next event that the pattern matches is waited for
-abbrev pub waits : List Segment → Env → State → (Answer → State → Ran) → Ran
-waits pattern env st go = does 1 (Wait (place_of env st) pattern) (answered (slice_get env.answers st.used) (acted st) go)
+-- the pattern of the stop of this live loop; no other thread can be stopped from outside
+abbrev pub stop_pattern : Role → Option (List Segment)
+stop_pattern (Looped name wait init) = Some (literal_of (inner_of StopPath name))
+stop_pattern _ = None
 
 -- a thread that waited is at the time of the event, one micro step later
 abbrev pub woken : Place → State → State
 woken place st = record st { time = place.time; micro = place.micro + 1; moved = true }
 
--- the event is taken: that is told by an event of its own, and its value is given; an event without a path answers no wait
-abbrev pub takes : Option (List (List ℕ)) → EventView → Env → State → Ran
-takes None event env st = halts
-takes (Some path) event env st = emits (λ place. took_event place path event.value) env (woken event.place st) (gives event.value)
+-- what comes next of the event that answers a wait, with its path; an event without a path wakes nothing
+abbrev pub wakes_with : Option (List (List ℕ)) → EventView → State → (List (List ℕ) → EventView → State → Ran) → Ran
+wakes_with None event st go = halts
+wakes_with (Some path) event st go = go path event (woken event.place st)
 
-abbrev pub takes_answer : Env → Answer → State → Ran
-takes_answer env Nothing st = halts
-takes_answer env (Found event) st = takes event.path event env st
+abbrev pub wakes_by : Answer → State → (List (List ℕ) → EventView → State → Ran) → Ran
+wakes_by Nothing st go = halts
+wakes_by (Found event) st go = wakes_with event.path event st go
 
--- `sync`: a wait, and what it takes
-abbrev pub syncs : List Segment → Env → State → Ran
-syncs pattern env st = waits pattern env st (takes_answer env)
+-- the next event that the pattern matches is waited for; in the thread of a live loop the next stop of that loop too
+abbrev pub waits : List Segment → Env → State → (List (List ℕ) → EventView → State → Ran) → Ran
+waits pattern env st go =
+    does 1 (Wait (place_of env st) pattern (stop_pattern env.start.role))
+    (answered (slice_get env.answers st.used) (acted st) (λ answer st. wakes_by answer st go))
 
 -- the path at which a thread that was started by a name tells of its start and of its end
 abbrev pub name_path : Role → Option (List (List ℕ))
 name_path Plain = None
 name_path (Named name) = Some (inner_of NamedPath name)
-name_path (Looped name wait) = Some (inner_of LoopedPath name)
+name_path (Looped name wait init) = Some (inner_of LoopedPath name)
+name_path (Timed rest given line) = None
 
 abbrev pub tells_end : Option (List (List ℕ)) → Env → State → (State → Ran) → Ran
 tells_end None env st go = go st
@@ -103,6 +108,27 @@ tells_end (Some path) env st go = emits (λ place. ended_event place path) env s
 -- the thread ends; one that was started by a name tells so before
 abbrev pub ends : EndReason → Env → State → Ran
 ends reason env st = tells_end (name_path env.start.role) env st (λ st. does 1 (End (place_of env st) reason) halts)
+
+-- the path is that of the stop of this name
+abbrev pub is_stop_of : List ℕ → List (List ℕ) → Bool
+is_stop_of name (word ∷ other ∷ []) = bytes_eq word (kind_word StopPath) && bytes_eq other name
+is_stop_of name _ = false
+
+-- the path is that of the stop of the thread, where it is the thread of a live loop
+abbrev pub is_own_stop : Role → List (List ℕ) → Bool
+is_own_stop (Looped name wait init) path = is_stop_of name path
+is_own_stop _ path = false
+
+-- The event is taken: that is told by an event of its own, and its value is given. A stop of the thread ends it instead.
+abbrev pub takes : List (List ℕ) → EventView → Env → State → Ran
+takes path event env st =
+    cond (is_own_stop env.start.role path)
+    (ends Stopped env st)
+    (emits (λ place. took_event place path event.value) env st (gives event.value))
+
+-- `sync`: a wait, and what it takes
+abbrev pub syncs : List Segment → Env → State → Ran
+syncs pattern env st = waits pattern env st (λ path event st. takes path event env st)
 
 -- a fault, on the line of the innermost statement, ends this thread alone
 abbrev pub fails : FaultKind → Env → Spot → State → Ran

@@ -40,6 +40,11 @@ body_sizes (Some body) = pair_sizes body.1
 abbrev pub emit_cost : EventView → ℕ
 emit_cost event = 1 + (event_size event.kind event.value + (pair_sizes event.options + body_sizes event.body))
 
--- a thread is started: 16, and the sizes of the locals that are copied
-abbrev pub spawn_cost : Pairs → ℕ
-spawn_cost locals = 16 + pair_sizes locals
+-- a thread is started: 16, the sizes of the locals that are copied, and the size of the value that is handed over with them
+abbrev pub spawn_cost : Pairs → ℕ → ℕ
+spawn_cost locals handed = 16 + (pair_sizes locals + handed)
+
+-- the size of a value, where one is given
+abbrev pub size_if_given : Option Value → ℕ
+size_if_given None = 0
+size_if_given (Some value) = size_of value

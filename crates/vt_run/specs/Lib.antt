@@ -1,6 +1,7 @@
 pub mod Actions
 pub mod calls
 pub mod Costs
+pub mod Delays
 pub mod Environment
 pub mod Evaluation
 pub mod laws

@@ -23,10 +23,11 @@ use Rattle.vt_run.specs.declared.action.Action.TheVariants.{Emit, Rest, Read, Wa
 use Rattle.vt_run.specs.declared.action.Answer.{Answer}
 use Rattle.vt_run.specs.declared.action.Answer.TheVariants.{Nothing, Found}
 use Rattle.vt_run.specs.declared.role.Role.{Role}
-use Rattle.vt_run.specs.declared.role.Role.TheVariants.{Plain, Named, Looped}
+use Rattle.vt_run.specs.declared.role.Role.TheVariants.{Plain, Named, Looped, Timed}
 use Rattle.vt_run.specs.declared.settings.Settings.{Settings}
 use Rattle.vt_run.specs.declared.start.Start.{Start}
 use Rattle.vt_run.specs.declared.texts.Texts.{Texts}
+use Rattle.vt_run.specs.Delays.{is_delay}
 use Rattle.vt_run.specs.Tempo.{is_tempo}
 use Rattle.vt_run.specs.Threads.{text_at, tree_in}
 
@@ -63,11 +64,12 @@ abbrev pub IsWaitWithin : Option (List Segment) → Type 0
 IsWaitWithin None = Unit {0}
 IsWaitWithin (Some pattern) = IsPattern pattern
 
--- the name of a thread, and what a live loop waits for
+-- the name of a thread; what a live loop waits for, and the value for its first turn; the rest of a thread of `at`, and the value that it is given
 abbrev pub IsRoleWithin : Role → Type 0
 IsRoleWithin Plain = Unit {0}
 IsRoleWithin (Named name) = IsTrue (is_symbol_name name)
-IsRoleWithin (Looped name wait) = IsTrue (is_symbol_name name) × IsWaitWithin wait
+IsRoleWithin (Looped name wait init) = IsTrue (is_symbol_name name) × IsWaitWithin wait × IsWithin init
+IsRoleWithin (Timed rest given line) = IsFraction rest × IsTrue (is_delay rest) × IsWithin given
 
 pub record IsStartWithin (start : Start) : Type 0 where
   pub time : IsFraction start.place.time
@@ -102,12 +104,17 @@ pub record IsRestWithin (seconds : Fraction) : Type 0 where
   pub fraction : IsFraction seconds
   pub forward : is_negative seconds ≡ false
 
+-- the pattern of a stop is the literal one of an inner path
+abbrev pub IsStopWithin : Option (List Segment) → Type 0
+IsStopWithin None = Unit {0}
+IsStopWithin (Some pattern) = IsInnerPattern pattern
+
 -- An action, with what stands in it. The time after a rest fits too. The lists of threads and the numbers of effects in it are kept within their limits by their types.
 abbrev pub IsActionWithin : Action → Type 0
 IsActionWithin (Emit event) = IsEventWithin event
 IsActionWithin (Rest place seconds) = IsFraction place.time × IsRestWithin seconds × IsFraction (sum_of place.time seconds)
 IsActionWithin (Read place pattern) = IsFraction place.time × IsPatternWithin pattern
-IsActionWithin (Wait place pattern) = IsFraction place.time × IsPattern pattern
+IsActionWithin (Wait place pattern stop) = IsFraction place.time × IsPattern pattern × IsStopWithin stop
 IsActionWithin (Spawn place start) = IsFraction place.time × IsStartWithin start
 IsActionWithin (End place reason) = IsFraction place.time
 

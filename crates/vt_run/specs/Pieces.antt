@@ -21,7 +21,7 @@ stop_of until None = None
 stop_of until (Some (Emit event)) = None
 stop_of until (Some (Rest place seconds)) = cond (is_past until (sum_of place.time seconds)) (Some Past) None
 stop_of until (Some (Read place pattern)) = Some Asks
-stop_of until (Some (Wait place pattern)) = Some Asks
+stop_of until (Some (Wait place pattern stop)) = Some Asks
 stop_of until (Some (Spawn place start)) = None
 stop_of until (Some (End place reason)) = Some Ended
 
@@ -96,7 +96,7 @@ IsWaitAnswer (Some (Found event)) = IsSome event.path × (event.place.micro < 2 
 
 -- what an answer has to be, by the last action of the thread
 abbrev pub AnswersLast : Option Action → Option Answer → Type 0
-AnswersLast (Some (Wait place pattern)) answer = IsWaitAnswer answer
+AnswersLast (Some (Wait place pattern stop)) answer = IsWaitAnswer answer
 AnswersLast _ answer = Unit {0}
 
 -- the answer is one that the last of these steps may have

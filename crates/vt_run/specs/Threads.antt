@@ -1,22 +1,24 @@
 -- The meaning of a thread: the steps of its evaluation, by how it starts and by the answers to its reads and waits. After FARM 2014 and the Sonic Pi tutorial, chapters 5 and 9; answers, costs and the bound are own.
 --
 -- The meaning goes by recursion on the tree. A loop may go on for ever, and a function may call itself, so there is a bound: a loop makes at most n turns, and at most n calls stand within one another. Each turn and each call takes a step, so where the bound runs out there are n steps, and the first n are the same under every greater bound.
-use Rattle.std.specs.Prelude.{ℕ, zero, suc, List, [], ◌++◌, take, false, Option, Some, None, option_and_then, slice_get}
+use Rattle.std.specs.Prelude.{ℕ, zero, suc, List, [], ◌∷◌, ◌++◌, take, false, Option, Some, None, option_and_then, slice_get}
 use Rattle.vt_check.specs.Checked.{block_at}
 use Rattle.vt_frac.specs.Fraction.{Fraction}
 use Rattle.vt_rand.specs.Draw.{random_stream_of}
+use Rattle.vt_ring.specs.Exact.{exact_sum}
 use Rattle.vt_tree.specs.declared.statement.Block.{Block}
+use Rattle.vt_value.specs.declared.value.Value.{Value}
 use Rattle.vt_event.specs.declared.references.BlockRef.{BlockRef}
 use Rattle.vt_run.specs.declared.action.Answer.{Answer}
 use Rattle.vt_run.specs.declared.action.EndReason.TheVariants.{Done}
 use Rattle.vt_run.specs.declared.role.Role.{Role}
-use Rattle.vt_run.specs.declared.role.Role.TheVariants.{Plain, Named, Looped}
+use Rattle.vt_run.specs.declared.role.Role.TheVariants.{Plain, Named, Looped, Timed}
 use Rattle.vt_run.specs.declared.start.Start.{Start}
 use Rattle.vt_run.specs.declared.state.State.{State}
 use Rattle.vt_run.specs.declared.texts.Texts.{Texts}
 use Rattle.vt_run.specs.declared.texts.Verdict.{Verdict}
 use Rattle.vt_run.specs.declared.texts.Verdict.TheVariants.{Good, Bad}
-use Rattle.vt_run.specs.Actions.{ends}
+use Rattle.vt_run.specs.Actions.{ends, or_fails, rests}
 use Rattle.vt_run.specs.Environment.{Body, Env}
 use Rattle.vt_run.specs.calls.LiveLoops.{live_turns, waits_first}
 use Rattle.vt_run.specs.Scopes.{BlockMeaning, params_with, with_locals}
@@ -83,17 +85,24 @@ opening start = record {
 abbrev pub first_spot : Spot
 first_spot = record { depth = 0; line = 0 }
 
--- the first block, and then the end of the thread
-abbrev pub first_block : Option Body → Env → State → Ran
-first_block None env st = ends Done env st
-first_block (Some body) env st =
-    after (body.run first_spot (with_locals (st.locals ++ params_with body.params []) st)) (λ value end. ends Done env end)
+-- the first block, with these values for its parameters, and then the end of the thread
+abbrev pub first_block : List Value → Option Body → Env → State → Ran
+first_block values None env st = ends Done env st
+first_block values (Some body) env st =
+    after (body.run first_spot (with_locals (st.locals ++ params_with body.params values) st)) (λ value end. ends Done env end)
 
--- a live loop makes turns; every other thread runs its first block
+-- a thread of `at` rests before its block; a time that does not fit is its fault overflow, on the line of the `at`
+abbrev pub rests_first : Fraction → ℕ → Env → State → (State → Ran) → Ran
+rests_first rest line env st go =
+    or_fails (exact_sum st.time rest) env (record { depth = 0; line = line }) st (λ time.
+    after (rests rest env st) (λ value st. go st))
+
+-- a live loop makes turns; every other thread runs its first block, and one of `at` rests before
 abbrev pub by_role : Role → Env → State → Ran
-by_role Plain env st = first_block (env.body env.start.block) env st
-by_role (Named name) env st = first_block (env.body env.start.block) env st
-by_role (Looped name wait) env st = waits_first wait env st (live_turns env.turns name env)
+by_role Plain env st = first_block [] (env.body env.start.block) env st
+by_role (Named name) env st = first_block [] (env.body env.start.block) env st
+by_role (Looped name wait init) env st = waits_first wait env st (live_turns env.turns name env init)
+by_role (Timed rest given line) env st = rests_first rest line env st (λ st. first_block (given ∷ []) (env.body env.start.block) env st)
 
 -- all that a thread does under a bound
 unfoldable pub thread : Texts → Start → List Answer → ℕ → Ran

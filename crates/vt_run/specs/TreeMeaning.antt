@@ -17,7 +17,7 @@ use Rattle.vt_run.specs.declared.state.State.{State}
 use Rattle.vt_run.specs.Actions.{or_fails}
 use Rattle.vt_run.specs.calls.Arguments.{no_arguments}
 use Rattle.vt_run.specs.Costs.{node_size}
-use Rattle.vt_run.specs.calls.EffectTable.{calls_name, if_built}
+use Rattle.vt_run.specs.calls.EffectTable.{calls_name}
 use Rattle.vt_run.specs.Environment.{Env, Meaning}
 use Rattle.vt_run.specs.Operators.{index_of, linked, links, literal_value, unary_of}
 use Rattle.vt_run.specs.Scopes.{BlockMeaning, assigned, branch, enters, inside_pairs, lookup, pair_if, row, with_locals}
@@ -65,7 +65,7 @@ options_of (labelled ∷ rest) env at st go =
 -- a bare name is a local where there is one, and else a call without arguments
 abbrev pub local_or_call : Option Value → List ℕ → Meaning
 local_or_call (Some value) name env at st = gives value st
-local_or_call None name env at st = if_built name (calls_name (call_named name) name no_arguments None) env at st
+local_or_call None name env at st = calls_name (call_named name) name no_arguments None env at st
 
 abbrev pub bare_name : List ℕ → Meaning
 bare_name name env at st = local_or_call (lookup name st.locals) name env at st
@@ -103,11 +103,10 @@ link_layer link value env at st = linked link.op value link.part env at st
 -- a call: its arguments and then its options, one deeper where they stand in parentheses; the parentheses are left before the call is done
 abbrev pub call_layer : OfMeanings Call-F → CallMeaning
 call_layer call receiver env at st =
-    if_built call.name (λ env at st.
     pair_if call.wrapped env at st (λ inner.
     values_of call.args env inner st (λ args st.
     options_of call.options env inner st (λ options st.
-    calls_name (call_named call.name) call.name (record { receiver = receiver; args = args; options = options }) call.block env at st)))) env at st
+    calls_name (call_named call.name) call.name (record { receiver = receiver; args = args; options = options }) call.block env at st)))
 
 -- whether a condition holds: with `unless` where its value is untrue
 abbrev pub is_met : Bool → Value → Bool

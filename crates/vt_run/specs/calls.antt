@@ -5,6 +5,7 @@ pub mod EffectTable
 pub mod FunctionCalls
 pub mod LiveLoops
 pub mod MessageCalls
+pub mod PatternCalls
 pub mod PlayCalls
 pub mod SettingCalls
 pub mod ThreadCalls

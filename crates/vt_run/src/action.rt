@@ -26,15 +26,32 @@ pub enum Action {
     /// It publishes an event.
     Emit(Event),
     /// It rests for so many seconds.
-    Rest { place: Place, seconds: Frac },
+    Rest {
+        place: Place,
+        seconds: Frac,
+    },
     /// It asks for the last event whose path the pattern matches.
-    Read { place: Place, pattern: Pattern },
-    /// It waits for the next event whose path the pattern matches.
-    Wait { place: Place, pattern: Pattern },
+    Read {
+        place: Place,
+        pattern: Pattern,
+    },
+    /// It waits for the next event whose path the pattern matches, or, in the thread of a live loop, the pattern `stop`: that of
+    /// the loop's stop.
+    Wait {
+        place: Place,
+        pattern: Pattern,
+        stop: Option<Pattern>,
+    },
     /// It starts a thread.
-    Spawn { place: Place, start: Start },
+    Spawn {
+        place: Place,
+        start: Start,
+    },
     /// It ends.
-    End { place: Place, reason: EndReason },
+    End {
+        place: Place,
+        reason: EndReason,
+    },
 }
 
 /// What a read or a wait is answered by. A wait is answered by `Found`.

@@ -3,6 +3,7 @@
 ghost use Rattle.vt_path.proofs.PathDecided.{IsNoneWhereNoPath, IsPathWhereWritten};
 ghost use Rattle.vt_path.proofs.PatternDecided.{IsNoneWhereNoPattern, IsPatternWhereWritten};
 ghost use Rattle.vt_run.specs.laws.NoteLaws.{PieceLaw};
+ghost use Rattle.vt_run.specs.laws.StandingLaws.{AnswerLaw, MicroLaw, NextPlaceLaw, StandingLaw, StepCountLaw, StopsLaw, ThreadLaw, TimedLaw};
 ghost use Rattle.vt_run.specs.laws.StartLaws.{RefusalLaw, TextStartLaw};
 ghost use Rattle.vt_run.specs.laws.StepLaws.{AnswersLaw, BlocksLaw, ChildrenLaw, ClosingLaw, CostsLaw, EventsLaw, HorizonLaw, LastLaw, LimitsLaw, NextLaw, NumbersLaw, PiecesAreOne, PlacesLaw, PrefixLaw, RisingLaw};
 ghost use Rattle.vt_run.specs.laws.SequenceLaws.{AfterOptionsLaw, AfterValuesLaw, LinksLaw, OptionsLaw, SequenceLaw, ValuesLaw};
@@ -77,6 +78,47 @@ pub fn actions_are_numbered()
 /// The places of a thread rise strictly.
 pub fn places_rise()
     ensures { RisingLaw }
+{}
+
+/// An action stands before the place of the next one, also where no other follows.
+pub fn places_rise_to_the_next()
+    ensures { NextPlaceLaw }
+{}
+
+/// Each action stands in the thread that does it.
+pub fn actions_stand_in_their_thread()
+    ensures { ThreadLaw }
+{}
+
+/// The micro step of the next place is at most that of the start, or one more than the greatest of the events that woke the
+/// thread.
+pub fn micro_steps_follow_events()
+    ensures { MicroLaw }
+{}
+
+/// The number of the next action is at most that of the first and the number of the steps that are done.
+pub fn numbers_follow_steps()
+    ensures { StepCountLaw }
+{}
+
+/// A wait asks for the stop of its live loop too, and for no other stop.
+pub fn waits_ask_for_stops()
+    ensures { StopsLaw }
+{}
+
+/// A thread of `at` rests before its block.
+pub fn timed_threads_rest_first()
+    ensures { TimedLaw }
+{}
+
+/// Where a thread stands tells what is next: it goes on where it is ready, and does nothing elsewhere.
+pub fn standing_tells_what_is_next()
+    ensures { StandingLaw }
+{}
+
+/// An answer moves a thread that asks or waits, and no other.
+pub fn answers_move_a_thread()
+    ensures { AnswerLaw }
 {}
 
 /// No action stands at or past the horizon.

@@ -2,10 +2,11 @@
 
 ghost use Rattle.std.specs.Prelude.{◌≡◌, IfOk};
 
+use crate::Delay;
 use std::alloc::Global;
 use vt_frac::NoMemory;
 use vt_path::Pattern;
-use vt_value::Symbol;
+use vt_value::{Symbol, Value};
 
 /// Which part a thread has in its session.
 #[derive(Drop)]
@@ -14,8 +15,19 @@ pub enum Role {
     Plain,
     /// The thread of this name.
     Named(Symbol),
-    /// The live loop of this name. At its start it waits for an event whose path `wait` matches, where there is one.
-    Looped { name: Symbol, wait: Option<Pattern> },
+    /// The live loop of this name. At its start it waits for an event whose path `wait` matches, where there is one. `init`
+    /// is the value of the parameter of its first turn.
+    Looped {
+        name: Symbol,
+        wait: Option<Pattern>,
+        init: Value,
+    },
+    /// A block of `at`, whose statement stands on this line: it rests before its block, whose parameter has the value `given`.
+    Timed {
+        rest: Delay,
+        given: Value,
+        line: u32,
+    },
 }
 
 impl Role {
@@ -26,11 +38,17 @@ impl Role {
         match self {
             Role::Plain => Ok(Role::Plain),
             Role::Named(name) => Ok(Role::Named(name.copy(alloc)?)),
-            Role::Looped { name, wait } => {
+            Role::Looped { name, wait, init } => {
+                let init = init.copy(alloc)?;
                 let name = name.copy(alloc)?;
                 let wait = copy_wait(alloc, wait)?;
-                Ok(Role::Looped { name, wait })
+                Ok(Role::Looped { name, wait, init })
             }
+            Role::Timed { rest, given, line } => Ok(Role::Timed {
+                rest: *rest,
+                given: given.copy(alloc)?,
+                line: *line,
+            }),
         }
     }
 }

@@ -3,7 +3,7 @@ use Rattle.std.specs.Prelude.{ℕ, Bool, true, false, Option, List, [], ◌∷�
 use Rattle.std.specs.Option.{option_map}
 use denote.Enum.Declared.{tag_of}
 use Rattle.vt_table.specs.declared.calls.CallName.{CallName}
-use Rattle.vt_table.specs.declared.calls.CallName.TheVariants.{Abs, Bools, Butlast, Ceil, Choose, Chord, Count, Cue, CurrentBpm, Dec, Define, Dice, Drop, DropLast, Each, Even, First, Floor, Get, InThread, Inc, Knit, Last, Length, Line, LiveLoop, Look, Loop, Map, Max, Min, Mirror, Note, Octs, Odd, OneIn, Pick, Play, Print, Puts, Rand, RandI, Range, Reflect, Repeat, Reverse, Ring, Rotate, Round, Rrand, RrandI, Rt, Sample, Scale, Set, Shuffle, Size, Sleep, Sort, Spread, Stop, Stretch, Sum, Sync, Synth, Take, TakeLast, Tick, TickReset, TickSet, Times, UseBpm, UseDebug, UseRandomSeed, UseSynth, UseSynthDefaults, Vt, Wait, WithBpm, WithFx, WithRandomSeed, WithSynth}
+use Rattle.vt_table.specs.declared.calls.CallName.TheVariants.{Abs, At, Bools, Butlast, Ceil, Choose, Chord, ChordInvert, Count, Cue, CurrentBpm, Dec, Define, Degree, Density, Dice, Drop, DropLast, Each, Even, First, Floor, Get, InThread, Inc, Knit, Last, Length, Line, LiveLoop, Look, Loop, Map, Max, Min, Mirror, Note, Octs, Odd, OneIn, Pick, Play, PlayPattern, PlayPatternTimed, Print, Puts, Rand, RandI, Range, Reflect, Repeat, Reverse, Ring, Rotate, Round, Rrand, RrandI, Rt, Sample, Scale, Set, Shuffle, Size, Sleep, Sort, Spread, Stop, Stretch, Sum, Sync, Synth, Take, TakeLast, Tick, TickReset, TickSet, Times, UseBpm, UseDebug, UseRandomSeed, UseSynth, UseSynthDefaults, Vt, Wait, WithBpm, WithFx, WithRandomSeed, WithSynth}
 use Rattle.vt_table.specs.contracts.calls.CallName.{the_type}
 use Rattle.vt_table.specs.declared.calls.Need.{Need}
 use Rattle.vt_table.specs.declared.calls.Need.TheVariants.{None as Without, Must}
@@ -38,16 +38,20 @@ any = 255
 unfoldable pub calls : List Call
 calls =
     call (codes "abs") Abs 1 1 Without true false ∷
+    call (codes "at") At 1 2 Must false true ∷
     call (codes "bools") Bools 0 any Without true false ∷
     call (codes "butlast") Butlast 1 1 Without true false ∷
     call (codes "ceil") Ceil 1 1 Without true false ∷
     call (codes "choose") Choose 1 1 Without true false ∷
     call (codes "chord") Chord 2 2 Without true false ∷
+    call (codes "chord_invert") ChordInvert 2 2 Without true false ∷
     call (codes "count") Count 1 1 Without true false ∷
     call (codes "cue") Cue 1 any Without false true ∷
     call (codes "current_bpm") CurrentBpm 0 0 Without false true ∷
     call (codes "dec") Dec 1 1 Without true false ∷
     call (codes "define") Define 1 1 Must false true ∷
+    call (codes "degree") Degree 3 3 Without true false ∷
+    call (codes "density") Density 1 1 Must false true ∷
     call (codes "dice") Dice 0 1 Without true false ∷
     call (codes "drop") Drop 2 2 Without true false ∷
     call (codes "drop_last") DropLast 2 2 Without true false ∷
@@ -75,6 +79,8 @@ calls =
     call (codes "one_in") OneIn 1 1 Without true false ∷
     call (codes "pick") Pick 1 2 Without true false ∷
     call (codes "play") Play 1 1 Without false true ∷
+    call (codes "play_pattern") PlayPattern 1 1 Without false true ∷
+    call (codes "play_pattern_timed") PlayPatternTimed 2 2 Without false true ∷
     call (codes "print") Print 0 16 Without false true ∷
     call (codes "puts") Puts 0 16 Without false true ∷
     call (codes "rand") Rand 0 1 Without true false ∷

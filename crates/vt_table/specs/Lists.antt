@@ -24,14 +24,20 @@ list_of table name = option_and_then (list_at table) (row_of (names_of table) na
 unfoldable pub scales : Table
 scales =
     (codes "aeolian", 2 ∷ 1 ∷ 2 ∷ 2 ∷ 1 ∷ 2 ∷ 2 ∷ []) ∷
+    (codes "augmented", 3 ∷ 1 ∷ 3 ∷ 1 ∷ 3 ∷ 1 ∷ []) ∷
+    (codes "blues_major", 2 ∷ 1 ∷ 1 ∷ 3 ∷ 2 ∷ 3 ∷ []) ∷
+    (codes "blues_minor", 3 ∷ 2 ∷ 1 ∷ 1 ∷ 3 ∷ 2 ∷ []) ∷
     (codes "chromatic", 1 ∷ 1 ∷ 1 ∷ 1 ∷ 1 ∷ 1 ∷ 1 ∷ 1 ∷ 1 ∷ 1 ∷ 1 ∷ 1 ∷ []) ∷
+    (codes "diminished", 1 ∷ 2 ∷ 1 ∷ 2 ∷ 1 ∷ 2 ∷ 1 ∷ 2 ∷ []) ∷
     (codes "dorian", 2 ∷ 1 ∷ 2 ∷ 2 ∷ 2 ∷ 1 ∷ 2 ∷ []) ∷
     (codes "harmonic_minor", 2 ∷ 1 ∷ 2 ∷ 2 ∷ 1 ∷ 3 ∷ 1 ∷ []) ∷
+    (codes "hungarian_minor", 2 ∷ 1 ∷ 3 ∷ 1 ∷ 1 ∷ 3 ∷ 1 ∷ []) ∷
     (codes "ionian", 2 ∷ 2 ∷ 1 ∷ 2 ∷ 2 ∷ 2 ∷ 1 ∷ []) ∷
     (codes "locrian", 1 ∷ 2 ∷ 2 ∷ 1 ∷ 2 ∷ 2 ∷ 2 ∷ []) ∷
     (codes "lydian", 2 ∷ 2 ∷ 2 ∷ 1 ∷ 2 ∷ 2 ∷ 1 ∷ []) ∷
     (codes "major", 2 ∷ 2 ∷ 1 ∷ 2 ∷ 2 ∷ 2 ∷ 1 ∷ []) ∷
     (codes "major_pentatonic", 2 ∷ 2 ∷ 3 ∷ 2 ∷ 3 ∷ []) ∷
+    (codes "melodic_minor", 2 ∷ 1 ∷ 2 ∷ 2 ∷ 2 ∷ 2 ∷ 1 ∷ []) ∷
     (codes "minor", 2 ∷ 1 ∷ 2 ∷ 2 ∷ 1 ∷ 2 ∷ 2 ∷ []) ∷
     (codes "minor_pentatonic", 3 ∷ 2 ∷ 2 ∷ 3 ∷ 2 ∷ []) ∷
     (codes "mixolydian", 2 ∷ 2 ∷ 1 ∷ 2 ∷ 2 ∷ 1 ∷ 2 ∷ []) ∷
@@ -43,15 +49,21 @@ scales =
 -- (Sonic Pi's language reference; the selection is own)
 unfoldable pub chords : Table
 chords =
+    (codes "add9", 0 ∷ 4 ∷ 7 ∷ 14 ∷ []) ∷
     (codes "aug", 0 ∷ 4 ∷ 8 ∷ []) ∷
     (codes "dim", 0 ∷ 3 ∷ 6 ∷ []) ∷
     (codes "dim7", 0 ∷ 3 ∷ 6 ∷ 9 ∷ []) ∷
     (codes "dom7", 0 ∷ 4 ∷ 7 ∷ 10 ∷ []) ∷
+    (codes "dom9", 0 ∷ 4 ∷ 7 ∷ 10 ∷ 14 ∷ []) ∷
     (codes "m7", 0 ∷ 3 ∷ 7 ∷ 10 ∷ []) ∷
     (codes "major", 0 ∷ 4 ∷ 7 ∷ []) ∷
+    (codes "major6", 0 ∷ 4 ∷ 7 ∷ 9 ∷ []) ∷
     (codes "major7", 0 ∷ 4 ∷ 7 ∷ 11 ∷ []) ∷
+    (codes "major9", 0 ∷ 4 ∷ 7 ∷ 11 ∷ 14 ∷ []) ∷
     (codes "minor", 0 ∷ 3 ∷ 7 ∷ []) ∷
+    (codes "minor6", 0 ∷ 3 ∷ 7 ∷ 9 ∷ []) ∷
     (codes "minor7", 0 ∷ 3 ∷ 7 ∷ 10 ∷ []) ∷
+    (codes "minor9", 0 ∷ 3 ∷ 7 ∷ 10 ∷ 14 ∷ []) ∷
     (codes "sus2", 0 ∷ 2 ∷ 7 ∷ []) ∷
     (codes "sus4", 0 ∷ 5 ∷ 7 ∷ []) ∷
     []

@@ -12,16 +12,20 @@ use crate::names::{Named, row_named};
 #[derive(Clone, Copy, Debug, PartialEq, Eq)]
 pub enum CallName {
     Abs,
+    At,
     Bools,
     Butlast,
     Ceil,
     Choose,
     Chord,
+    ChordInvert,
     Count,
     Cue,
     CurrentBpm,
     Dec,
     Define,
+    Degree,
+    Density,
     Dice,
     Drop,
     DropLast,
@@ -49,6 +53,8 @@ pub enum CallName {
     OneIn,
     Pick,
     Play,
+    PlayPattern,
+    PlayPatternTimed,
     Print,
     Puts,
     Rand,
@@ -96,7 +102,7 @@ pub enum CallName {
 }
 
 /// How many calls there are.
-pub const CALL_COUNT: usize = 82;
+pub const CALL_COUNT: usize = 88;
 
 impl CallName {
     /// The number of the call, which its row has.
@@ -219,16 +225,20 @@ macro_rules! call {
 // whether it has effects.
 static CALLS: [Entry; CALL_COUNT] = [
     call!(b"abs", Abs, 1, 1, None, true, false),
+    call!(b"at", At, 1, 2, Must, false, true),
     call!(b"bools", Bools, 0, ANY, None, true, false),
     call!(b"butlast", Butlast, 1, 1, None, true, false),
     call!(b"ceil", Ceil, 1, 1, None, true, false),
     call!(b"choose", Choose, 1, 1, None, true, false),
     call!(b"chord", Chord, 2, 2, None, true, false),
+    call!(b"chord_invert", ChordInvert, 2, 2, None, true, false),
     call!(b"count", Count, 1, 1, None, true, false),
     call!(b"cue", Cue, 1, ANY, None, false, true),
     call!(b"current_bpm", CurrentBpm, 0, 0, None, false, true),
     call!(b"dec", Dec, 1, 1, None, true, false),
     call!(b"define", Define, 1, 1, Must, false, true),
+    call!(b"degree", Degree, 3, 3, None, true, false),
+    call!(b"density", Density, 1, 1, Must, false, true),
     call!(b"dice", Dice, 0, 1, None, true, false),
     call!(b"drop", Drop, 2, 2, None, true, false),
     call!(b"drop_last", DropLast, 2, 2, None, true, false),
@@ -256,6 +266,16 @@ static CALLS: [Entry; CALL_COUNT] = [
     call!(b"one_in", OneIn, 1, 1, None, true, false),
     call!(b"pick", Pick, 1, 2, None, true, false),
     call!(b"play", Play, 1, 1, None, false, true),
+    call!(b"play_pattern", PlayPattern, 1, 1, None, false, true),
+    call!(
+        b"play_pattern_timed",
+        PlayPatternTimed,
+        2,
+        2,
+        None,
+        false,
+        true
+    ),
     call!(b"print", Print, 0, 16, None, false, true),
     call!(b"puts", Puts, 0, 16, None, false, true),
     call!(b"rand", Rand, 0, 1, None, true, false),

@@ -13,8 +13,8 @@ use Rattle.vt_tree.specs.declared.statement.Simple.{Simple}
 use Rattle.vt_tree.specs.declared.statement.Stmt.{Stmt}
 use Rattle.vt_tree.specs.declared.statement.StmtForm.{StmtForm}
 
--- where a part of a tree stands
-pub record Place : Type 0 where
+-- the context in which a part of a tree stands
+pub record Context : Type 0 where
   -- the line of the innermost statement round it
   pub line : ℕ
   -- whether it is a whole statement of the text itself, with or without a condition after it
@@ -24,7 +24,7 @@ pub record Place : Type 0 where
 
 -- a call where it stands
 pub record Site : Type 0 where
-  pub place : Place
+  pub context : Context
   pub call : Call
 
 -- a call, which stands at its name, or a block, which stands at its first token
@@ -32,21 +32,21 @@ pub data Part : Type 0 where
   called : Site → Part
   opened : Block → Part
 
--- the parts of something, by the place where it stands
+-- the parts of something, by the context in which it stands
 abbrev pub Walk : Type 0
-Walk = Place → List Part
+Walk = Context → List Part
 
 -- inside a statement, but not the whole of it
-abbrev pub inside : Place → Place
-inside p = record { line = p.line; outermost = false; dotted = false }
+abbrev pub inside : Context → Context
+inside context = record { line = context.line; outermost = false; dotted = false }
 
 -- the same after a dot
-abbrev pub after_dot : Place → Place
-after_dot p = record { line = p.line; outermost = false; dotted = true }
+abbrev pub after_dot : Context → Context
+after_dot context = record { line = context.line; outermost = false; dotted = true }
 
 -- a statement that begins on this line
-abbrev pub at_line : ℕ → Place → Place
-at_line line p = record { line = line; outermost = p.outermost; dotted = false }
+abbrev pub at_line : ℕ → Context → Context
+at_line line context = record { line = line; outermost = context.outermost; dotted = false }
 
 -- What stands in the children of one layer of a tree, whose children have these types.
 pub record Children (N S F C E L A B T : Type 0) : Type 0 where
@@ -64,64 +64,64 @@ pub record Children (N S F C E L A B T : Type 0) : Type 0 where
 
 -- children one after another
 abbrev pub each : {X : Type 0} → (X → Walk) → List X → Walk
-each parts xs p = flat_map (λ x. parts x p) xs
+each parts xs context = flat_map (λ x. parts x context) xs
 
 -- a call, and then what stands in it
 abbrev pub site : {N S F C E L A B T : Type 0} → Children N S F C E L A B T → C → Walk
-site in_its c p = called (record { place = p; call = in_its.as_call c }) ∷ in_its.call c p
+site in_its c context = called (record { context = context; call = in_its.as_call c }) ∷ in_its.call c context
 
 -- what is there, if anything
 abbrev pub if_there : {X : Type 0} → (X → Walk) → Option X → Walk
-if_there parts None p = []
-if_there parts (Some x) p = parts x p
+if_there parts None context = []
+if_there parts (Some x) context = parts x context
 
 -- a block, and then what stands in it
 abbrev pub whole_block : {N S F C E L A B T : Type 0} → Children N S F C E L A B T → B → Walk
-whole_block in_its b p = opened (in_its.as_block b) ∷ in_its.block b p
+whole_block in_its b context = opened (in_its.as_block b) ∷ in_its.block b context
 
 -- an expression: the receiver stands before the name of its call, and a chain's parts in their order
 abbrev pub node_parts : {N S F C E L A B T : Type 0} → Children N S F C E L A B T → Node-F N S F C E L A B T → Walk
-node_parts in_its (Node-F.Literal value) p = []
-node_parts in_its (Node-F.Name name) p = []
-node_parts in_its (Node-F.Call call) p = site in_its call p
-node_parts in_its (Node-F.List items) p = each in_its.expr items (inside p)
-node_parts in_its (Node-F.Index of at) p = in_its.expr of (inside p) ++ in_its.expr at (inside p)
-node_parts in_its (Node-F.Dot of call) p = in_its.expr of (inside p) ++ site in_its call (after_dot p)
-node_parts in_its (Node-F.Unary op of) p = in_its.expr of (inside p)
-node_parts in_its (Node-F.Chain kind first rest) p = in_its.expr first (inside p) ++ each in_its.link rest (inside p)
+node_parts in_its (Node-F.Literal value) context = []
+node_parts in_its (Node-F.Name name) context = []
+node_parts in_its (Node-F.Call call) context = site in_its call context
+node_parts in_its (Node-F.List items) context = each in_its.expr items (inside context)
+node_parts in_its (Node-F.Index of at) context = in_its.expr of (inside context) ++ in_its.expr at (inside context)
+node_parts in_its (Node-F.Dot of call) context = in_its.expr of (inside context) ++ site in_its call (after_dot context)
+node_parts in_its (Node-F.Unary op of) context = in_its.expr of (inside context)
+node_parts in_its (Node-F.Chain kind first rest) context = in_its.expr first (inside context) ++ each in_its.link rest (inside context)
 
 -- parentheses change nothing
 abbrev pub expr_parts : {N S F C E L A B T : Type 0} → Children N S F C E L A B T → Expr-F N S F C E L A B T → Walk
-expr_parts in_its e p = in_its.node e.node p
+expr_parts in_its e context = in_its.node e.node context
 
 abbrev pub link_parts : {N S F C E L A B T : Type 0} → Children N S F C E L A B T → Link-F N S F C E L A B T → Walk
-link_parts in_its l p = in_its.expr l.part p
+link_parts in_its l context = in_its.expr l.part context
 
 -- inside a call: its arguments, its options and its block
 abbrev pub call_parts : {N S F C E L A B T : Type 0} → Children N S F C E L A B T → Call-F N S F C E L A B T → Walk
-call_parts in_its c p =
-    each in_its.expr c.args (inside p) ++ (each (λ o. in_its.expr o.1) c.options (inside p) ++ if_there (whole_block in_its) c.block (inside p))
+call_parts in_its c context =
+    each in_its.expr c.args (inside context) ++ (each (λ o. in_its.expr o.1) c.options (inside context) ++ if_there (whole_block in_its) c.block (inside context))
 
 -- inside a block: its statements
 abbrev pub block_parts : {N S F C E L A B T : Type 0} → Children N S F C E L A B T → Block-F N S F C E L A B T → Walk
-block_parts in_its b p = each in_its.stmt b.stmts p
+block_parts in_its b context = each in_its.stmt b.stmts context
 
 abbrev pub stmt_parts : {N S F C E L A B T : Type 0} → Children N S F C E L A B T → Stmt-F N S F C E L A B T → Walk
-stmt_parts in_its s p = in_its.form s.form (at_line s.line p)
+stmt_parts in_its s context = in_its.form s.form (at_line s.line context)
 
 -- a condition after a statement stands after it
 abbrev pub form_parts : {N S F C E L A B T : Type 0} → Children N S F C E L A B T → StmtForm-F N S F C E L A B T → Walk
-form_parts in_its (StmtForm-F.Plain simple) p = in_its.simple simple p
-form_parts in_its (StmtForm-F.Guarded simple unless cond) p = in_its.simple simple p ++ in_its.expr cond (inside p)
+form_parts in_its (StmtForm-F.Plain simple) context = in_its.simple simple context
+form_parts in_its (StmtForm-F.Guarded simple unless cond) context = in_its.simple simple context ++ in_its.expr cond (inside context)
 
 -- the statements of a branch are none of the text itself
 abbrev pub simple_parts : {N S F C E L A B T : Type 0} → Children N S F C E L A B T → Simple-F N S F C E L A B T → Walk
-simple_parts in_its (Simple-F.Iff arms other) p = each in_its.arm arms (inside p) ++ if_there (each in_its.stmt) other (inside p)
-simple_parts in_its (Simple-F.Assign name op value) p = in_its.expr value (inside p)
-simple_parts in_its (Simple-F.Value value) p = in_its.expr value p
+simple_parts in_its (Simple-F.Iff arms other) context = each in_its.arm arms (inside context) ++ if_there (each in_its.stmt) other (inside context)
+simple_parts in_its (Simple-F.Assign name op value) context = in_its.expr value (inside context)
+simple_parts in_its (Simple-F.Value value) context = in_its.expr value context
 
 abbrev pub arm_parts : {N S F C E L A B T : Type 0} → Children N S F C E L A B T → Arm-F N S F C E L A B T → Walk
-arm_parts in_its a p = in_its.expr a.cond p ++ each in_its.stmt a.stmts p
+arm_parts in_its a context = in_its.expr a.cond context ++ each in_its.stmt a.stmts context
 
 -- The recursion over a tree goes by the layers above. (It gives a record, since it asks for a type above the data.)
 pub record Held : Type 1 where
@@ -236,8 +236,8 @@ blocks_of [] = []
 blocks_of (called site ∷ parts) = blocks_of parts
 blocks_of (opened block ∷ parts) = block ∷ blocks_of parts
 
--- the place of the statements of the text itself
-abbrev pub in_text : Place
+-- the context of the statements of the text itself
+abbrev pub in_text : Context
 in_text = record { line = 0; outermost = true; dotted = false }
 
 -- the calls of a text's tree

@@ -2,7 +2,7 @@
 use Rattle.std.specs.Prelude.{◌≡◌, ℕ, ◌==◌, cond, List, [], ◌∷◌, Option, Some, None}
 use Rattle.std.specs.List.{All}
 use Rattle.vt_tree.specs.declared.statement.Block.{Block, out-Block}
-use Rattle.vt_tree.specs.Parts.{Place, Walk, blocks_of, sites_of}
+use Rattle.vt_tree.specs.Parts.{Context, Walk, blocks_of, sites_of}
 use Rattle.vt_check.specs.Checked.{IsSoundBlock}
 use Rattle.vt_check.specs.Verdict.{IsSound}
 
@@ -18,5 +18,5 @@ IsSoundIn (Some block) = IsSoundBlock block
 
 -- The first block with this number among these parts, wherever they stand; where their calls have no fault, its calls have none.
 pub record Finds (number : ℕ) (parts : Walk) (found : Option Block) : Type 0 where
-  pub by : (p : Place) → found ≡ block_with number (blocks_of (parts p))
-  pub sound : (p : Place) → All IsSound (sites_of (parts p)) → IsSoundIn found
+  pub by : (context : Context) → found ≡ block_with number (blocks_of (parts context))
+  pub sound : (context : Context) → All IsSound (sites_of (parts context)) → IsSoundIn found

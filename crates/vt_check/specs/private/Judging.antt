@@ -1,7 +1,7 @@
 -- What a walk over a tree has to find.
 use Rattle.std.specs.Prelude.{List, Result, Ok, Err, Option, Some, None}
 use Rattle.std.specs.List.{All}
-use Rattle.vt_tree.specs.Parts.{Part, Place, Site, sites_of}
+use Rattle.vt_tree.specs.Parts.{Part, Context, Site, sites_of}
 use Rattle.vt_tree.specs.declared.expression.Call.{Call}
 use Rattle.vt_check.specs.declared.fault.CheckKind.{CheckKind}
 use Rattle.vt_check.specs.declared.fault.CheckFault.{CheckFault}
@@ -23,6 +23,6 @@ abbrev pub JudgesCall : Site → Option CheckKind → Type 0
 JudgesCall site None = IsSound site
 JudgesCall site (Some kind) = IsFaultOf site kind
 
--- a call at a place
-abbrev pub site_of : Place → Call → Site
-site_of place call = record { place = place; call = call }
+-- a call in a context
+abbrev pub site_of : Context → Call → Site
+site_of context call = record { context = context; call = call }

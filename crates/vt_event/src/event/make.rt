@@ -193,7 +193,7 @@ impl Event {
         nameless(alloc, place, Kind::Started, Some(path), Value::Nil, None, 0)
     }
 
-    /// A named thread ends.
+    /// A named thread ends; at a path `/!stop/NAME`, the live loop of that name is told to stop.
     pub fn of_ended(alloc: Global, place: Place, path: Path) -> Result<Event, NoMemory>
         ensures { IfOk result (λ event. event ≡ ended_event place path) }
     {

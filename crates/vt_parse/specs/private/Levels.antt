@@ -13,12 +13,12 @@ use Rattle.vt_grammar.specs.Marks.{Mark}
 
 -- the operators of a level
 abbrev pub class_of : ChainKind → Class
-class_of chains.Term = classes.TermOp
-class_of chains.Sum = classes.SumOp
-class_of chains.Comp = classes.CompOp
-class_of chains.Conj = classes.ConjOp
-class_of chains.Disj = classes.DisjOp
-class_of chains.Expr = classes.ExprOp
+class_of chains.Term = classes.TermOperator
+class_of chains.Sum = classes.SumOperator
+class_of chains.Comp = classes.ComparisonOperator
+class_of chains.Conj = classes.ConjunctionOperator
+class_of chains.Disj = classes.DisjunctionOperator
+class_of chains.Expr = classes.ExpressionOperator
 
 abbrev pub ops_of : ChainKind → Terminal → Bool
 ops_of kind = class_terminals (class_of kind)

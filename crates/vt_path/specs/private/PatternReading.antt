@@ -7,8 +7,8 @@ use Rattle.vt_path.specs.declared.pattern.Segment.{Segment}
 use Rattle.vt_path.specs.declared.pattern.Segment.TheVariants.{AnySegments, Parts}
 use Rattle.vt_path.specs.declared.pattern.Part.{Part}
 use Rattle.vt_path.specs.declared.pattern.Part.TheVariants.{AnyBytes, Set, Alternatives}
-use Rattle.vt_path.specs.declared.pattern_reader.Place.{Place}
-use Rattle.vt_path.specs.declared.pattern_reader.Place.TheVariants.{Between, InSet, InAlternatives}
+use Rattle.vt_path.specs.declared.pattern_reader.Position.{Position}
+use Rattle.vt_path.specs.declared.pattern_reader.Position.TheVariants.{Between, InSet, InAlternatives}
 use Rattle.vt_path.specs.declared.pattern_reader.PatternReader.{PatternReader}
 
 -- the parts that a segment is written with
@@ -21,8 +21,8 @@ pub record IsSegmentOf (parts : List Part) (segment : Segment) : Type 0 where
   pub same : parts_of segment ≡ parts
   pub any : parts ≡ AnyBytes ∷ AnyBytes ∷ [] → segment ≡ AnySegments
 
--- the byte that leads to this place: `[` (91) and `{` (123)
-abbrev pub IsOpening : Place → ℕ → Type 0
+-- the byte that opens this position: `[` (91) and `{` (123)
+abbrev pub IsOpening : Position → ℕ → Type 0
 IsOpening Between byte = ⊥
 IsOpening InSet byte = byte ≡ 91
 IsOpening InAlternatives byte = byte ≡ 123
@@ -34,7 +34,7 @@ pub record Reading : Type 0 where
   pub parts : List Part
   pub names : List (List ℕ)
   pub bytes : List ℕ
-  pub place : Place
+  pub position : Position
   pub used : ℕ
 
 abbrev pub reading : PatternReader → Reading
@@ -43,7 +43,7 @@ reading reader = record {
   parts = reader.parts.items;
   names = reader.names.items;
   bytes = reader.bytes.items;
-  place = reader.place;
+  position = reader.position;
   used = reader.used;
 }
 
@@ -71,13 +71,13 @@ pub record FromAlternatives (done : List Segment) (begun : List Part) (names : L
   pub text : rest ≡ more ++ (flat_map (λ other. 44 ∷ other) others ++ 125 ∷ after)
   pub closed : FromParts done (begun ++ Alternatives (names ++ (bytes ++ more) ∷ others) ∷ []) after pattern
 
-abbrev pub LeadsFrom : Place → Reading → List ℕ → List Segment → Type 0
-LeadsFrom Between r = λ rest pattern. FromParts r.done r.parts rest pattern
-LeadsFrom InSet r = λ rest pattern. FromSet r.done r.parts r.bytes rest pattern
-LeadsFrom InAlternatives r = λ rest pattern. FromAlternatives r.done r.parts r.names r.bytes rest pattern
+abbrev pub GoesOnFrom : Position → Reading → List ℕ → List Segment → Type 0
+GoesOnFrom Between r = λ rest pattern. FromParts r.done r.parts rest pattern
+GoesOnFrom InSet r = λ rest pattern. FromSet r.done r.parts r.bytes rest pattern
+GoesOnFrom InAlternatives r = λ rest pattern. FromAlternatives r.done r.parts r.names r.bytes rest pattern
 
-abbrev pub Leads : Reading → List ℕ → List Segment → Type 0
-Leads r rest pattern = LeadsFrom r.place r rest pattern
+abbrev pub GoesOnTo : Reading → List ℕ → List Segment → Type 0
+GoesOnTo r rest pattern = GoesOnFrom r.position r rest pattern
 
 -- the bytes of these alternatives, each with its comma
 abbrev pub names_size : List (List ℕ) → ℕ
@@ -106,7 +106,7 @@ pub record IsInAlternatives (r : Reading) : Type 0 where
   pub bytes : All IsPathByte r.bytes
   pub names : All IsWord r.names
 
-abbrev pub IsInside : Place → Reading → Type 0
+abbrev pub IsInside : Position → Reading → Type 0
 IsInside Between r = IsBetween r
 IsInside InSet r = IsInSet r
 IsInside InAlternatives r = IsInAlternatives r
@@ -116,23 +116,23 @@ pub record IsSound (r : Reading) : Type 0 where
   pub few : length r.done < 16
   pub segments : All IsPatternSegment r.done
   pub parts : All IsPart r.parts
-  pub inside : IsInside r.place r
+  pub inside : IsInside r.position r
 
 -- the byte was read: what goes on with it before goes on without it now
-pub record Steps (old : Reading) (byte : ℕ) (new : Reading) : Type 0 where
+pub record ReadsOn (old : Reading) (byte : ℕ) (new : Reading) : Type 0 where
   pub sound : IsSound new
-  pub on : (rest : List ℕ) (pattern : List Segment) → IsPattern pattern → Leads old (byte ∷ rest) pattern → Leads new rest pattern
-  pub back : (rest : List ℕ) (pattern : List Segment) → Leads new rest pattern → Leads old (byte ∷ rest) pattern
+  pub on : (rest : List ℕ) (pattern : List Segment) → IsPattern pattern → GoesOnTo old (byte ∷ rest) pattern → GoesOnTo new rest pattern
+  pub back : (rest : List ℕ) (pattern : List Segment) → GoesOnTo new rest pattern → GoesOnTo old (byte ∷ rest) pattern
 
 -- no pattern goes on with the byte
-abbrev pub NoStep : Reading → ℕ → Type 0
-NoStep old byte = (rest : List ℕ) (pattern : List Segment) → IsPattern pattern → Leads old (byte ∷ rest) pattern → ⊥
+abbrev pub ReadsNoFurther : Reading → ℕ → Type 0
+ReadsNoFurther old byte = (rest : List ℕ) (pattern : List Segment) → IsPattern pattern → GoesOnTo old (byte ∷ rest) pattern → ⊥
 
 abbrev pub Takes : Reading → ℕ → Reading → Bool → Type 0
-Takes old byte new true = Steps old byte new
-Takes old byte new false = NoStep old byte
+Takes old byte new true = ReadsOn old byte new
+Takes old byte new false = ReadsNoFurther old byte
 
 -- the pattern that was read, or none goes on with no byte
 abbrev pub Ends : Reading → Option (List Segment) → Type 0
-Ends r (Some pattern) = IsPattern pattern × Leads r [] pattern
-Ends r None = (pattern : List Segment) → IsPattern pattern → Leads r [] pattern → ⊥
+Ends r (Some pattern) = IsPattern pattern × GoesOnTo r [] pattern
+Ends r None = (pattern : List Segment) → IsPattern pattern → GoesOnTo r [] pattern → ⊥

@@ -1,14 +1,8 @@
--- The way up by steps, one after the other. The project's own.
-use Rattle.std.specs.Prelude.{◌≡◌, ℕ, List, [], ◌∷◌, ◌++◌, Result, Ok, Err, IsOk}
+-- Lists of notes that grow. The project's own.
+use Rattle.std.specs.Prelude.{◌≡◌, List, ◌++◌, Result, Ok, Err, IsOk}
 use Rattle.vt_value.specs.declared.fault.FaultKind.{FaultKind}
 use Rattle.vt_value.specs.declared.value.Value.{Value}
 use Rattle.vt_ring.specs.Answers.{and_then}
-use Rattle.vt_ring.specs.NoteCalls.{raised}
-
--- the note at the end of the way
-abbrev pub climbed : Value → List ℕ → Result Value FaultKind
-climbed note [] = Ok note
-climbed note (step ∷ steps) = and_then (raised note step) (λ next. climbed next steps)
 
 -- notes that are there already, and others behind them
 abbrev pub behind : List Value → Result (List Value) FaultKind → Result (List Value) FaultKind

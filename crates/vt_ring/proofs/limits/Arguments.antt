@@ -13,7 +13,7 @@ use Rattle.vt_value.specs.declared.value.Value.{Value}
 use Rattle.vt_value.specs.Kinds.{number_of, ring_of, symbol_of, whole_of}
 use Rattle.vt_value.specs.Limits.{IsWithin, AreWithin}
 use Rattle.vt_ring.specs.Arguments.{between, whole_argument}
-use Rattle.vt_ring.specs.Signatures.{a_number, a_ring, a_ring_and_a_whole, a_ring_and_perhaps_a_whole, a_whole, number_argument, number_or, one_of, one_or_none_of, one_or_two_of, perhaps_a_number, perhaps_a_whole, ring_argument, symbol_argument, two_numbers, two_of, two_or_three_of, two_wholes, whole_or}
+use Rattle.vt_ring.specs.Signatures.{a_number, a_ring, a_ring_and_a_whole, a_ring_and_perhaps_a_whole, a_whole, number_argument, number_or, one_of, one_or_none_of, one_or_two_of, perhaps_a_number, perhaps_a_whole, ring_argument, symbol_argument, three_of, two_numbers, two_of, two_or_three_of, two_wholes, whole_or}
 use Rattle.vt_ring.proofs.limits.Answers.{and_then_gives, cond_gives, ok_or_gives}
 use Rattle.vt_ring.proofs.limits.Values.{IsRingWithin, IsWholeWithin, number_if, ring_if, symbol_if, whole_fraction, whole_if}
 
@@ -44,6 +44,13 @@ one_or_two_give [] h = tt
 one_or_two_give (a ∷ []) h = (h.0, tt)
 one_or_two_give (a ∷ b ∷ []) h = (h.0, h.1.0)
 one_or_two_give (a ∷ b ∷ c ∷ rest) h = tt
+
+pub three_give : (args : List Value) → AreWithin args → IfOk (three_of args) (λ all. IsWithin all.0 × IsWithin all.1 × IsWithin all.2)
+three_give [] h = tt
+three_give (a ∷ []) h = tt
+three_give (a ∷ b ∷ []) h = tt
+three_give (a ∷ b ∷ c ∷ []) h = (h.0, h.1.0, h.1.1.0)
+three_give (a ∷ b ∷ c ∷ d ∷ rest) h = tt
 
 pub two_or_three_give : (args : List Value) → AreWithin args → IfOk (two_or_three_of args) (λ all. IsWithin all.0 × IsWithin all.1 × IsSomeWithin all.2)
 two_or_three_give [] h = tt

@@ -10,7 +10,7 @@ use Rattle.vt_ring.specs.CallTable.{CallsGiveWithin, value_of_call}
 use Rattle.vt_ring.specs.Signatures.{Options}
 use Rattle.vt_ring.specs.Streams.{words_from}
 use Rattle.vt_ring.proofs.limits.MakeCalls.{bools_give, knit_gives, line_gives, range_gives, ring_call_gives, spread_gives}
-use Rattle.vt_ring.proofs.limits.NoteCalls.{chord_gives, note_gives, octs_gives, scale_gives}
+use Rattle.vt_ring.proofs.limits.NoteCalls.{chord_gives, chord_invert_gives, degree_gives, note_gives, octs_gives, scale_gives}
 use Rattle.vt_ring.proofs.limits.NumberCalls.{abs_gives, ceil_gives, dec_gives, even_gives, floor_gives, inc_gives, max_gives, min_gives, odd_gives, round_gives}
 use Rattle.vt_ring.proofs.limits.PartCalls.{butlast_gives, count_gives, drop_gives, drop_last_gives, first_gives, last_gives, length_gives, mirror_gives, reflect_gives, repeat_gives, reverse_gives, rotate_gives, size_gives, sort_gives, stretch_gives, sum_call_gives, take_gives, take_last_gives}
 use Rattle.vt_ring.proofs.limits.RandomCalls.{AreWords, choose_gives, dice_gives, one_in_gives, pick_gives, rand_gives, rand_i_gives, rrand_gives, rrand_i_gives, shuffle_gives, stream_words}
@@ -24,8 +24,10 @@ called_gives call.Butlast args options words w h = butlast_gives args h
 called_gives call.Ceil args options words w h = ceil_gives args h
 called_gives call.Choose args options words w h = choose_gives args words h
 called_gives call.Chord args options words w h = chord_gives args h
+called_gives call.ChordInvert args options words w h = chord_invert_gives args h
 called_gives call.Count args options words w h = count_gives args h
 called_gives call.Dec args options words w h = dec_gives args h
+called_gives call.Degree args options words w h = degree_gives args h
 called_gives call.Dice args options words w h = dice_gives args words w
 called_gives call.Drop args options words w h = drop_gives args h
 called_gives call.DropLast args options words w h = drop_last_gives args h

@@ -4,12 +4,12 @@ use Rattle.std.specs.List.{AllByRecursion, list_all}
 use Rattle.std.specs.Option.{IfSome, option_map}
 use Rattle.std.specs.Result.{IfOk}
 use Rattle.std.specs.Char.{is_ascii_digit, to_ascii_lowercase}
-use Rattle.std.proofs.Common.{◌≡◌, ℕ, zero, suc, ◌+◌, ◌-◌, ◌*◌, ◌<◌, ◌≤◌, ℤ, pos, negsuc, unsigned_abs, Bool, true, false, IsTrue, List, [], ◌∷◌, length, Option, Some, None, refl, sym, ap, ◌∙◌, arith, length-append}
+use Rattle.std.proofs.Common.{◌≡◌, ℕ, zero, suc, ◌+◌, ◌-◌, ◌*◌, ◌++◌, ◌<◌, ◌≤◌, ℤ, pos, negsuc, unsigned_abs, Bool, true, false, ◌&&◌, IsTrue, List, [], ◌∷◌, length, Option, Some, None, refl, sym, ap, ◌∙◌, arith, length-append}
 use Rattle.std.proofs.lemmas.Bool.{false≢true, leb-true, ltb-true}
 use Rattle.std.proofs.lemmas.Int.{ints}
 use Rattle.std.proofs.lemmas.Result.{IfOk-weaker}
 use Rattle.vt_frac.specs.Fraction.{Fraction, IsFraction, whole}
-use Rattle.vt_frac.proofs.DecimalLemmas.{digit_small}
+use Rattle.vt_frac.proofs.DecimalLemmas.{both_true, digit_small}
 use Rattle.vt_table.specs.Lists.{Table, chord_intervals, chords, list_at, list_of, names_of, scale_steps, scales}
 use Rattle.vt_table.specs.Names.{row_of}
 use Rattle.vt_table.specs.Notes.{beside, letters, midi_number, note_number, octave_of, pitch_of, shift_of, signs, spelled}
@@ -20,17 +20,18 @@ use Rattle.vt_value.specs.declared.value.Value.TheOpen.{Value-F}
 use Rattle.vt_value.specs.declared.value.Value.TheVariants.{Whole, Part, Ring, rolls-Whole, rolls-Part}
 use Rattle.vt_value.specs.Arithmetic.{arith_layers, exact_arith, whole_arith}
 use Rattle.vt_value.specs.Kinds.{number_layer, number_of}
-use Rattle.vt_value.specs.Sizes.{size_layer, size_of}
+use Rattle.vt_value.specs.Sizes.{size_layer, size_of, sizes_of}
 use Rattle.vt_value.specs.Limits.{WithinLayer, IsWithin, AreWithin}
 use Rattle.vt_value.proofs.Layers.{size-layer}
 use Rattle.vt_ring.specs.Arguments.{between, whole_argument}
-use Rattle.vt_ring.specs.NoteCalls.{chord_call, intervals_above, note_call, octs_call, raised, scale_call, steps_up, times}
-use Rattle.vt_ring.specs.Signatures.{Options, a_note_and_a_symbol, a_note_and_a_whole, named_note, note_argument, note_layer, one_of, option_named, symbol_argument, two_of, whole_or}
-use Rattle.vt_ring.proofs.limits.Arguments.{between_gives, one_gives, two_give}
-use Rattle.vt_ring.proofs.Elements.{each_found, each_passes}
+use Rattle.vt_ring.specs.CountCalls.{are_numbers}
+use Rattle.vt_ring.specs.NoteCalls.{chord_call, chord_invert_call, climbed, degree_call, first_steps, intervals_above, inverted, note_call, octs_call, raised, scale_call, steps_up, times}
+use Rattle.vt_ring.specs.Signatures.{Options, a_note_and_a_symbol, a_note_and_a_whole, a_ring_and_a_whole, a_whole_a_note_and_a_symbol, named_note, note_argument, note_layer, one_of, option_named, symbol_argument, three_of, two_of, whole_or}
+use Rattle.vt_ring.proofs.limits.Arguments.{a_ring_and_a_whole_give, between_gives, one_gives, three_give, two_give}
+use Rattle.vt_ring.proofs.Elements.{each_append, each_found, each_passes}
 use Rattle.vt_ring.proofs.limits.Arithmetic.{as_part_if, as_whole_if, exact_arith_gives, whole_arith_gives}
-use Rattle.vt_ring.proofs.limits.Answers.{and_then_any, and_then_gives, ok_or_gives}
-use Rattle.vt_ring.proofs.limits.Values.{IsSingle, IsWholeWithin, here, ring_of_singles, within_part, within_ring, within_whole}
+use Rattle.vt_ring.proofs.limits.Answers.{and_then_any, and_then_gives, cond_gives, ok_or_gives}
+use Rattle.vt_ring.proofs.limits.Values.{IsSingle, IsWholeWithin, at_some, here, ring_of_singles, within_part, within_ring, within_whole}
 
 -- a number within the limits
 pub record IsNote (value : Value) : Type 0 where
@@ -152,6 +153,13 @@ a_note_and_a_whole_give args h =
     and_then_gives (note_argument both.0) _ _ (λ both. IfOk both.0 IsNote) (note_argument_gives both.0 w.0) (λ note k.
     and_then_any (whole_argument both.1) _ (λ both. IfOk both.0 IsNote) (λ n. k)))
 
+a_whole_a_note_and_a_symbol_give : (args : List Value) → AreWithin args → IfOk (a_whole_a_note_and_a_symbol args) (λ all. IfOk all.1 IsNote)
+a_whole_a_note_and_a_symbol_give args h =
+    and_then_gives (three_of args) _ _ (λ all. IfOk all.1 IsNote) (three_give args h) (λ all w.
+    and_then_any (whole_argument all.0) _ (λ all. IfOk all.1 IsNote) (λ n.
+    and_then_gives (note_argument all.1) _ _ (λ all. IfOk all.1 IsNote) (note_argument_gives all.1 w.1) (λ note k.
+    and_then_any (symbol_argument all.2) _ (λ all. IfOk all.1 IsNote) (λ name. k))))
+
 -- Higher notes
 
 raised_gives : (note : Value) (tones : ℕ) → IsNote note → IfOk (raised note tones) IsNote
@@ -176,6 +184,22 @@ steps_up_give note (step ∷ steps) h =
     and_then_gives (raised note step) _ _ _ (raised_gives note step h) (λ next k.
     and_then_gives (steps_up next steps) _ _ _ (steps_up_give next steps k) (λ notes w.
     ((h, w.0), ap suc w.1)))
+
+climbed_gives : (note : Value) (steps : List ℕ) → IsNote note → IfOk (climbed note steps) IsNote
+climbed_gives note [] h = h
+climbed_gives note (step ∷ steps) h = and_then_gives (raised note step) _ _ IsNote (raised_gives note step h) (λ next k. climbed_gives next steps k)
+
+-- as many numbers as before
+abbrev AreNotes : ℕ → List Value → Type 0
+AreNotes count notes = AllByRecursion IsNote notes × (length notes ≡ count)
+
+inverted_gives : (n : ℕ) (notes : List Value) → AllByRecursion IsNote notes → IfOk (inverted n notes) (AreNotes (length notes))
+inverted_gives zero notes h = (h, refl)
+inverted_gives (suc n) [] h = (tt, refl)
+inverted_gives (suc n) (note ∷ notes) h =
+    and_then_gives (raised note 12) _ _ _ (raised_gives note 12 h.0) (λ higher k.
+    let same : length (notes ++ higher ∷ []) ≡ length (note ∷ notes) = omega (arith, length-append notes (higher ∷ [])) in
+    IfOk-weaker (inverted n (notes ++ higher ∷ [])) _ _ (λ list w. (w.0, w.1 ∙ same)) (inverted_gives n (notes ++ higher ∷ []) (each_append IsNote notes (higher ∷ []) h.1 (k, tt))))
 
 intervals_give : (note : Value) (intervals : List ℕ) → IsNote note → IfOk (intervals_above note intervals) (λ notes. AllByRecursion IsNote notes × (length notes ≡ length intervals))
 intervals_give note [] h = (tt, refl)
@@ -203,16 +227,27 @@ chords_short : IsShort chords
 unfolding chords
 chords_short = short_rows chords refl
 
-list_gives : (table : Table) (name : List ℕ) → IsShort table → IfSome (list_of table name) (λ numbers. length numbers ≤ 12)
-list_gives table name h = by_row (row_of (names_of table) name)
+list_if : (P : List ℕ → Type 0) (table : Table) (name : List ℕ) → AllByRecursion (λ (row : List ℕ × List ℕ). P row.1) table → IfSome (list_of table name) P
+list_if P table name h = by_row (row_of (names_of table) name)
   where
-    of_row : (found : Option (List ℕ × List ℕ)) → IfSome found (λ row. length row.1 ≤ 12) → IfSome (option_map (λ (row : List ℕ × List ℕ). row.1) found) (λ numbers. length numbers ≤ 12)
+    of_row : (found : Option (List ℕ × List ℕ)) → IfSome found (λ row. P row.1) → IfSome (option_map (λ (row : List ℕ × List ℕ). row.1) found) P
     of_row (Some row) k = k
     of_row None k = tt
 
-    by_row : (row : Option ℕ) → IfSome (option_and_then (list_at table) row) (λ numbers. length numbers ≤ 12)
-    by_row (Some row) = of_row (slice_get table row) (each_found (λ row. length row.1 ≤ 12) table row h)
+    by_row : (row : Option ℕ) → IfSome (option_and_then (list_at table) row) P
+    by_row (Some row) = of_row (slice_get table row) (each_found (λ (row : List ℕ × List ℕ). P row.1) table row h)
     by_row None = tt
+
+list_gives : (table : Table) (name : List ℕ) → IsShort table → IfSome (list_of table name) (λ numbers. length numbers ≤ 12)
+list_gives table name h = list_if (λ numbers. length numbers ≤ 12) table name h
+
+scales_step : AllByRecursion (λ (row : List ℕ × List ℕ). 0 < length row.1) scales
+unfolding scales
+scales_step = each_passes (λ (row : List ℕ × List ℕ). 0 < length row.1) (λ (row : List ℕ × List ℕ). nat_lt 0 (length row.1)) (λ row e. ltb-true 0 (length row.1) e) scales refl
+
+-- each scale has a step
+pub scale_has_steps : (name steps : List ℕ) → scale_steps name ≡ Some steps → 0 < length steps
+scale_has_steps name steps e = at_some (λ numbers. 0 < length numbers) (scale_steps name) steps e (list_if (λ numbers. 0 < length numbers) scales name scales_step)
 
 -- The calls
 
@@ -230,7 +265,7 @@ scale_gives args options h =
     and_then_any (whole_or (pos 1) (option_named (codes "num_octaves") options)) _ IsWithin (λ number.
     and_then_gives both.0 _ _ IsWithin w (λ tonic note.
     and_then_gives (ok_or (scale_steps both.1) BadValue) _ _ IsWithin (ok_or_gives (scale_steps both.1) BadValue _ (list_gives scales both.1 scales_short)) (λ steps few.
-    and_then_gives (between 1 8 number) _ _ IsWithin (between_gives 1 8 number) (λ octaves range.
+    and_then_gives (between 1 16 number) _ _ IsWithin (between_gives 1 16 number) (λ octaves range.
     and_then_gives (steps_up tonic (times octaves steps)) _ _ IsWithin (steps_up_give tonic (times octaves steps) note) (λ notes all.
     notes_within notes (omega (arith, all.1, length-times octaves steps few, range.1)) all.0))))))
 
@@ -248,6 +283,34 @@ unfolding octs_call
 octs_gives args h =
     and_then_gives (a_note_and_a_whole args) _ _ IsWithin (a_note_and_a_whole_give args h) (λ both w.
     and_then_gives both.0 _ _ IsWithin w (λ tonic note.
-    and_then_gives (between 1 16 both.1) _ _ IsWithin (between_gives 1 16 both.1) (λ count range.
+    and_then_gives (between 1 32 both.1) _ _ IsWithin (between_gives 1 32 both.1) (λ count range.
     and_then_gives (steps_up tonic (times (count - 1) (12 ∷ []))) _ _ IsWithin (steps_up_give tonic (times (count - 1) (12 ∷ [])) note) (λ notes all.
     notes_within notes (omega (arith, all.1, length-times (count - 1) (12 ∷ []) (omega arith), range.1)) all.0))))
+
+pub degree_gives : (args : List Value) → AreWithin args → IfOk (degree_call args) IsWithin
+unfolding degree_call
+degree_gives args h =
+    and_then_gives (a_whole_a_note_and_a_symbol args) _ _ IsWithin (a_whole_a_note_and_a_symbol_give args h) (λ all w.
+    and_then_any (between 1 64 all.0) _ IsWithin (λ n.
+    and_then_gives all.1 _ _ IsWithin w (λ tonic note.
+    and_then_any (ok_or (scale_steps all.2) BadValue) _ IsWithin (λ steps.
+    IfOk-weaker (climbed tonic (first_steps (n - 1) steps)) IsNote IsWithin (λ value k. k.within) (climbed_gives tonic (first_steps (n - 1) steps) note)))))
+
+-- numbers within the limits
+notes_of : (items : List Value) → are_numbers items ≡ true → AreWithin items → AllByRecursion IsNote items
+notes_of [] e h = tt
+notes_of (item ∷ items) e h =
+    let both = both_true (is_some (number_of item)) (are_numbers items) e in
+    (record { within = h.0; number = both.0 }, notes_of items both.1 h.1)
+
+few_items : (count size : ℕ) → (nat_le count 4096 && nat_le (1 + size) 65536) ≡ true → count ≤ 4096
+few_items count size e = leb-true count 4096 ((both_true (nat_le count 4096) (nat_le (1 + size) 65536) e).0)
+
+pub chord_invert_gives : (args : List Value) → AreWithin args → IfOk (chord_invert_call args) IsWithin
+unfolding chord_invert_call
+chord_invert_gives args h =
+    and_then_gives (a_ring_and_a_whole args) _ _ IsWithin (a_ring_and_a_whole_give args h) (λ both w.
+    cond_gives (are_numbers both.0) _ WrongKind IsWithin (λ e.
+    and_then_any (between 0 64 both.1) _ IsWithin (λ n.
+    and_then_gives (inverted n both.0) _ _ IsWithin (inverted_gives n both.0 (notes_of both.0 e w.0.each)) (λ notes all.
+    notes_within notes (omega (arith, all.1, few_items (length both.0) (sizes_of both.0) w.0.few)) all.0))))

@@ -14,7 +14,7 @@ use Rattle.vt_tree.specs.declared.statement.Block.{Block, out-Block}
 use Rattle.vt_tree.specs.declared.statement.Stmt.{Stmt, out-Stmt}
 use Rattle.vt_tree.specs.declared.expression.Node.TheOpen.{Node-F, Simple-F, StmtForm-F, Call-F, Expr-F, Link-F, Arm-F, Block-F, Stmt-F}
 use Rattle.vt_tree.specs.declared.expression.Node.TheFolds.{every-Block}
-use Rattle.vt_tree.specs.Parts.{Part, called, opened, Place, Site, Walk, after_dot, at_line, blocks, blocks_of, children, each, if_there, whole_block, in_arm, in_block, in_call, in_expr, in_form, in_link, in_node, in_simple, in_stmt, in_text, inside, node_parts, simple_parts, form_parts, call_parts, expr_parts, link_parts, arm_parts, block_parts, stmt_parts}
+use Rattle.vt_tree.specs.Parts.{Part, called, opened, Context, Site, Walk, after_dot, at_line, blocks, blocks_of, children, each, if_there, whole_block, in_arm, in_block, in_call, in_expr, in_form, in_link, in_node, in_simple, in_stmt, in_text, inside, node_parts, simple_parts, form_parts, call_parts, expr_parts, link_parts, arm_parts, block_parts, stmt_parts}
 use Rattle.vt_tree.specs.WellFormed.{GoodNode, GoodSimple, GoodForm, GoodCall, GoodExpr, GoodLink, GoodArm, GoodBlock, GoodStmt, IsFormedBlock, IsNumbered}
 use Rattle.vt_tree.proofs.PartsLemmas.{in_node-out, in_simple-out, in_form-out, in_call-out, in_expr-out, in_link-out, in_arm-out, in_block-out, in_stmt-out}
 use Rattle.vt_check.specs.Checked.{block_at}
@@ -101,7 +101,7 @@ AreFit texts text parts = AllByRecursion (IsFitBlock texts text) (blocks_of part
 
 -- Wherever the parts stand, if the text has a block of the number of each block among them, then the fact holds and each of these blocks fits.
 record Fits (texts : Texts) (text : ℕ) (F : Type 0) (parts : Walk) : Type 0 where
-  by : (p : Place) → AreThere texts text (parts p) → F × AreFit texts text (parts p)
+  by : (p : Context) → AreThere texts text (parts p) → F × AreFit texts text (parts p)
 
 module _ (texts : Texts) (text : ℕ) where
   abbrev fit : Predicates
@@ -118,17 +118,17 @@ module _ (texts : Texts) (text : ℕ) where
         ((one.0, other.0), all_both (IsFitBlock texts text) (V p) (W p) one.1 other.1);
   }
 
-  -- the same at other places, after a call, and where the one fact gives the other
-  moved : {F : Type 0} {W : Walk} (move : Place → Place) → Fits texts text F W → Fits texts text F (λ p. W (move p))
+  -- the same in other contexts, after a call, and where the one fact gives the other
+  moved : {F : Type 0} {W : Walk} (move : Context → Context) → Fits texts text F W → Fits texts text F (λ p. W (move p))
   moved move h = record { by = λ p there. h.by (move p) there }
 
-  after_call : {F : Type 0} {W : Walk} (site : Place → Site) → Fits texts text F W → Fits texts text F (λ p. called (site p) ∷ W p)
+  after_call : {F : Type 0} {W : Walk} (site : Context → Site) → Fits texts text F W → Fits texts text F (λ p. called (site p) ∷ W p)
   after_call site h = record { by = λ p there. h.by p there }
 
   turned : {F G : Type 0} {W : Walk} → (F → G) → Fits texts text F W → Fits texts text G W
   turned f h = record { by = λ p there. let facts = h.by p there in (f facts.0, facts.1) }
 
-  made_of : {F G : Type 0} {V : Walk} (W : Walk) → ((p : Place) → W p ≡ V p) → (F → G) → Fits texts text F V → Fits texts text G W
+  made_of : {F G : Type 0} {V : Walk} (W : Walk) → ((p : Context) → W p ≡ V p) → (F → G) → Fits texts text F V → Fits texts text G W
   made_of W same f h = record {
     by = λ p there.
         let facts = h.by p (subst (AreThere texts text) (same p) there) in
@@ -164,10 +164,10 @@ module _ (texts : Texts) (text : ℕ) where
   node_fits : (x : Node-F Node Simple StmtForm Call Expr Link Arm Block Stmt) → AllNode fitting x → Fits texts text (AllNode fit x) (node_parts children x)
   node_fits (Node-F.Literal value) h = no_parts
   node_fits (Node-F.Name name) h = no_parts
-  node_fits (Node-F.Call call) h = after_call (λ p. record { place = p; call = call }) h
+  node_fits (Node-F.Call call) h = after_call (λ p. record { context = p; call = call }) h
   node_fits (Node-F.List items) h = moved inside (each_fits fit.expr in_expr items h)
   node_fits (Node-F.Index of at) h = both (moved inside h.0) (moved inside h.1)
-  node_fits (Node-F.Dot of call) h = both (moved inside h.0) (after_call (λ p. record { place = after_dot p; call = call }) (moved after_dot h.1))
+  node_fits (Node-F.Dot of call) h = both (moved inside h.0) (after_call (λ p. record { context = after_dot p; call = call }) (moved after_dot h.1))
   node_fits (Node-F.Unary op of) h = moved inside h
   node_fits (Node-F.Chain kind first rest) h = both (moved inside h.0) (moved inside (each_fits fit.link in_link rest h.1))
 

@@ -1,7 +1,7 @@
 -- Each call that comes to a deed leaves values and a state within the limits of the language, and publishes well made events.
-use Rattle.std.proofs.Common.{◌≡◌, ◌^◌, ◌<◌, ℕ, ℤ, pos, negsuc, ◌+ℤ◌, unsigned_abs, List, [], ◌∷◌, ◌++◌, length, Option, Some, None, Result, Ok, Err, refl, inl, arith}
+use Rattle.std.proofs.Common.{◌≡◌, ◌^◌, ◌<◌, ℕ, ℤ, pos, negsuc, ◌+ℤ◌, unsigned_abs, List, [], ◌∷◌, ◌++◌, length, Option, Some, None, Ok, refl, inl, arith}
 use Rattle.std.specs.Prelude.{IfOk, IfSome, IsTrue, codes, option_to_list, slice_get, unwrap_or}
-use Rattle.std.specs.List.{AllByRecursion, filter_map}
+use Rattle.std.specs.List.{AllByRecursion}
 use Rattle.std.proofs.lemmas.Result.{IfOk-at_ok}
 use Rattle.vt_frac.specs.Fraction.{IsFraction, whole}
 use Rattle.vt_rand.specs.Draw.{RandomStream, random_stream_of}
@@ -11,17 +11,16 @@ use Rattle.vt_ring.specs.Arguments.{whole_argument}
 use Rattle.vt_ring.specs.Called.{Called}
 use Rattle.vt_ring.specs.Exact.{exact_product, exact_quotient}
 use Rattle.vt_ring.specs.Items.{wrapped}
-use Rattle.vt_ring.specs.Signatures.{a_number, one_of, one_or_none_of, ring_argument, symbol_argument, two_of}
+use Rattle.vt_ring.specs.Signatures.{a_number, one_of, one_or_none_of, symbol_argument, two_of}
 use Rattle.vt_ring.specs.Streams.{moved_on, words_from}
-use Rattle.vt_ring.proofs.limits.Values.{IsRingWithin, IsWholeWithin, fitting_gives, ring_within_gives, within_nil, within_part, within_whole}
+use Rattle.vt_ring.proofs.limits.Values.{IsWholeWithin, fitting_gives, ring_within_gives, within_nil, within_part, within_whole}
 use Rattle.vt_ring.proofs.limits.Answers.{and_then_any, and_then_gives, cond_gives, ok_or_gives}
 use Rattle.vt_ring.proofs.limits.Fractions.{product_gives}
-use Rattle.vt_ring.proofs.limits.Arguments.{IsSomeWithin, one_gives, one_or_none_gives, ring_argument_gives, symbol_argument_gives, two_give, whole_argument_gives}
+use Rattle.vt_ring.proofs.limits.Arguments.{IsSomeWithin, one_gives, one_or_none_gives, symbol_argument_gives, two_give, whole_argument_gives}
 use Rattle.vt_ring.proofs.limits.Calls.{called_gives}
 use Rattle.vt_ring.proofs.limits.RandomCalls.{stream_words}
-use Rattle.vt_ring.proofs.Elements.{each_found, each_map}
+use Rattle.vt_ring.proofs.Elements.{each_found}
 use Rattle.vt_table.specs.declared.calls.CallName.{CallName}
-use Rattle.vt_value.specs.declared.fault.FaultKind.{FaultKind}
 use Rattle.vt_value.specs.declared.fault.FaultKind.TheVariants.{EmptyRing, WrongKind}
 use Rattle.vt_value.specs.declared.value.Value.{Value}
 use Rattle.vt_value.specs.declared.value.Value.TheVariants.{Nil, Part}
@@ -34,27 +33,22 @@ use Rattle.vt_event.specs.EventsByKind.{cue_event, log_event, sample_event, set_
 use Rattle.vt_event.specs.Kinds.{is_sample_name}
 use Rattle.vt_run.specs.declared.settings.Settings.{Settings}
 use Rattle.vt_run.specs.declared.state.State.{State}
-use Rattle.vt_run.specs.calls.Arguments.{Given, a_symbol, all_args, path_argument}
+use Rattle.vt_run.specs.calls.Arguments.{Given, a_symbol, all_args, has_item, path_argument, ring_if_given}
 use Rattle.vt_run.specs.calls.Deeds.{Deed, changed_to, publishing, valued}
 use Rattle.vt_run.specs.calls.EffectTable.{computed, computed_by}
 use Rattle.vt_run.specs.Limits.{AreSettingsWithin}
 use Rattle.vt_run.specs.calls.MessageCalls.{cue_call, cue_of, puts_call, set_call}
-use Rattle.vt_run.specs.calls.PlayCalls.{notes_to_play, play_call, plays_note, sample_argument, sample_call, synth_call, with_defaults}
+use Rattle.vt_run.specs.calls.PlayCalls.{notes_to_play, play_call, sample_argument, sample_call, synth_call}
 use Rattle.vt_run.specs.calls.SettingCalls.{a_seed, a_tempo, use_bpm_call, use_debug_call, use_random_seed_call, use_synth_call, use_synth_defaults_call, with_stream}
 use Rattle.vt_run.specs.Tempo.{is_tempo}
-use Rattle.vt_run.specs.calls.TickCalls.{Counters, counted, counter_and_number, counter_name, counter_of, has_item, look_call, ring_and_counter, ring_before, tick_call, tick_reset_call, tick_set_call, with_counter, without_counter}
+use Rattle.vt_run.specs.calls.TickCalls.{Counters, counted, counter_and_number, counter_name, counter_of, look_call, ring_and_counter, tick_call, tick_reset_call, tick_set_call, with_counter, without_counter}
 use Rattle.vt_run.specs.calls.TimeCalls.{current_bpm_call, rt_call, vt_call}
-use Rattle.vt_run.proofs.facts.ArgumentFacts.{IsSymbol, IsWrittenPath, a_symbol_gives, a_tempo_gives, path_argument_gives}
-use Rattle.vt_run.proofs.facts.EventFacts.{cue_told, log_told, play_told, sample_told, set_told, synth_told}
+use Rattle.vt_run.proofs.facts.ArgumentFacts.{IsSymbol, IsWrittenPath, a_symbol_gives, a_tempo_gives, path_argument_gives, ring_if_given_gives, under}
+use Rattle.vt_run.proofs.facts.EventFacts.{cue_told, log_told, sample_told, set_told, synth_told}
 use Rattle.vt_run.proofs.facts.Known.{IsCounterWithin, IsDeed, IsGivenWithin, IsStateWithin, IsTold, like}
 use Rattle.vt_run.proofs.facts.NameFacts.{cue_segment, set_segment}
-use Rattle.vt_run.proofs.facts.NoteFacts.{IsPlayed, notes_to_play_give, played_each}
-use Rattle.vt_run.proofs.facts.PairFacts.{counter_if, defaults_within, or_if, with_counter_within, without_counter_within}
-
--- what holds of an answer under L
-under : {A : Type 0} (L : Type 0) (answer : Result A FaultKind) (P : A → Type 0) → (L → IfOk answer P) → IfOk answer (λ a. L → P a)
-under L (Ok a) P h = h
-under L (Err kind) P h = tt
+use Rattle.vt_run.proofs.facts.NoteFacts.{ArePlayed, notes_to_play_give, played_told}
+use Rattle.vt_run.proofs.facts.PairFacts.{counter_if, or_if, with_counter_within, without_counter_within}
 
 default_symbol : IsSymbol (codes "default")
 unfolding is_symbol_name
@@ -73,15 +67,11 @@ counter_name_gives : (named : Option Value) → IfSome named IsWithin → IfOk (
 counter_name_gives None h = default_symbol
 counter_name_gives (Some value) h = symbol_argument_gives value h
 
-ring_before_gives : (receiver : Option Value) → IfSome receiver IsWithin → IfOk (ring_before receiver) (λ ring. IfSome ring AreWithin)
-ring_before_gives None h = tt
-ring_before_gives (Some value) h = and_then_gives (ring_argument value) (λ items. Ok (Some items)) IsRingWithin (λ ring. IfSome ring AreWithin) (ring_argument_gives value h) (λ items k. k.each)
-
 ring_and_counter_gives : (given : Given) → IsGivenWithin given → IfOk (ring_and_counter given) IsRingAndCounter
 ring_and_counter_gives given h =
     let parts = receiver_and_args given.receiver given.args h.args in
     and_then_gives (one_or_none_of given.args) _ IsSomeWithin _ (one_or_none_gives given.args parts.1) (λ named n.
-    and_then_gives (ring_before given.receiver) _ (λ ring. IfSome ring AreWithin) _ (ring_before_gives given.receiver parts.0) (λ ring r.
+    and_then_gives (ring_if_given given.receiver) _ (λ ring. IfSome ring AreWithin) _ (ring_if_given_gives given.receiver parts.0) (λ ring r.
     and_then_gives (counter_name named) _ IsSymbol _ (counter_name_gives named n) (λ name symbol.
     cond_gives (has_item ring) (Ok (ring, name)) EmptyRing IsRingAndCounter (λ e. (r, symbol)))))
 
@@ -173,15 +163,12 @@ module _ (L : Type 0) (given : Given) (st : State) (g : L → IsGivenWithin give
   unfolding play_call
   play_gives =
       and_then_gives (one_of (all_args given)) _ (λ value. L → IsWithin value) _ one_under (λ value v.
-      and_then_gives (notes_to_play value) _ (λ notes. AllByRecursion (λ found. IfSome found (IsPlayed L)) notes) _ (notes_to_play_give L value v) (λ notes n.
+      and_then_gives (notes_to_play value) _ (ArePlayed L) _ (notes_to_play_give L value v) (λ notes n.
       record {
         alike = like st.locals st.settings st.ticks st.stream st.moved;
         value = λ l. within_nil;
         state = s;
-        events = each_map (IsPlayed L) (λ (event : Place → EventView). (place : Place) → (L → IsFraction place.time) → IsTold L place (event place)) (plays_note given.options st.settings)
-            (λ note p place time. play_told L st.settings.synth note (with_defaults given.options st.settings.defaults) st.settings.fx place p.number (λ l. (s l).set.synth) p.within
-            (λ l. defaults_within given.options st.settings.defaults (g l).options (s l).set.defaults) time)
-            (filter_map (λ note. note) notes) (played_each L notes n);
+        events = played_told L given.options st.settings notes (λ l. (g l).options) (λ l. (s l).set) n;
       }))
 
   synth_gives : IfOk (synth_call given st) (IsDeed L st)

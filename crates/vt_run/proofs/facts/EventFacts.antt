@@ -1,10 +1,10 @@
 -- Events of each kind are well made.
-use Rattle.std.proofs.Common.{◌≡◌, ◌≢◌, ◌<◌, ℕ, List, [], ◌∷◌, Option, Some, None, inl, inr, refl, sym, ap, subst, ◌∙◌, true≢false}
+use Rattle.std.proofs.Common.{◌≡◌, ◌≢◌, ◌<◌, ℕ, List, [], ◌∷◌, Option, Some, None, inl, inr, refl, sym, ap, subst, ◌∙◌, true≢false, arith}
 use Rattle.std.specs.Prelude.{IsTrue, ◌^◌, codes, pos}
 use Rattle.std.proofs.lemmas.Bool.{lt-ltb}
 use Rattle.vt_frac.specs.Fraction.{IsFraction}
 use Rattle.vt_path.specs.declared.inner_path.InnerKind.{InnerKind}
-use Rattle.vt_path.specs.declared.inner_path.InnerKind.TheVariants.{Named as NamedPath, Looped as LoopedPath}
+use Rattle.vt_path.specs.declared.inner_path.InnerKind.TheVariants.{Body as BodyPath, Def as DefPath, Named as NamedPath, Looped as LoopedPath, Stop as StopPath}
 use Rattle.vt_path.specs.Inner.{IsInner, inner_of}
 use Rattle.vt_value.specs.declared.fault.FaultKind.{FaultKind}
 use Rattle.vt_value.specs.declared.value.Value.{Value, out-Value, out-roll-Value}
@@ -20,7 +20,7 @@ use Rattle.vt_event.specs.EventsByKind.{body_event, cue_event, defined_event, en
 use Rattle.vt_event.specs.Kinds.{is_count, is_effect_number, is_note, is_sample_name}
 use Rattle.vt_event.specs.Pairs.{Pairs}
 use Rattle.vt_run.specs.declared.role.Role.{Role}
-use Rattle.vt_run.specs.declared.role.Role.TheVariants.{Plain, Named, Looped}
+use Rattle.vt_run.specs.declared.role.Role.TheVariants.{Plain, Named, Looped, Timed}
 use Rattle.vt_run.specs.Actions.{name_path}
 use Rattle.vt_run.specs.Limits.{ArePairsWithin, IsEventWithin, IsPathWithin, IsRoleWithin}
 use Rattle.vt_run.specs.WellMade.{IsWellMade}
@@ -56,12 +56,13 @@ fault_told L kind line place time = record {
       no_line = λ e. absurd (true≢false e);
     };
     outside = λ w. absurd (true≢false (sym w));
+    unstopped = λ k name e. no_some e;
   };
   within = λ l. record { time = time l; path = tt; name = λ n. absurd (true≢false (sym n)); value = within_nil; options = tt; body = tt };
 }
 
-pub ended_told : (L : Type 0) (path : List (List ℕ)) (place : Place) → (L → IsInner path) → (L → IsFraction place.time) → IsTold L place (ended_event place path)
-ended_told L path place inner time = record {
+pub ended_told : (L : Type 0) (path : List (List ℕ)) (place : Place) → ((name : List ℕ) → path ≢ inner_of StopPath name) → (L → IsInner path) → (L → IsFraction place.time) → IsTold L place (ended_event place path)
+ended_told L path place clear inner time = record {
   placed = refl;
   made = record {
     fields = record {
@@ -74,12 +75,13 @@ ended_told L path place inner time = record {
       no_line = λ e. refl;
     };
     outside = λ w. absurd (true≢false (sym w));
+    unstopped = λ k name e. clear name (some_same e);
   };
   within = λ l. record { time = time l; path = inr (inner l); name = λ n. absurd (true≢false (sym n)); value = within_nil; options = tt; body = tt };
 }
 
-pub started_told : (L : Type 0) (path : List (List ℕ)) (place : Place) → (L → IsInner path) → (L → IsFraction place.time) → IsTold L place (started_event place path)
-started_told L path place inner time = record {
+pub started_told : (L : Type 0) (path : List (List ℕ)) (place : Place) → ((name : List ℕ) → path ≢ inner_of StopPath name) → (L → IsInner path) → (L → IsFraction place.time) → IsTold L place (started_event place path)
+started_told L path place clear inner time = record {
   placed = refl;
   made = record {
     fields = record {
@@ -92,13 +94,14 @@ started_told L path place inner time = record {
       no_line = λ e. refl;
     };
     outside = λ w. absurd (true≢false (sym w));
+    unstopped = λ k name e. clear name (some_same e);
   };
   within = λ l. record { time = time l; path = inr (inner l); name = λ n. absurd (true≢false (sym n)); value = within_nil; options = tt; body = tt };
 }
 
 pub body_told : (L : Type 0) (path : List (List ℕ)) (block : BlockRef) (locals : Pairs) (line : ℕ) (place : Place) →
-    (L → IsInner path) → (L → ArePairsWithin locals) → (L → IsFraction place.time) → IsTold L place (body_event place path block locals line)
-body_told L path block locals line place inner pairs time = record {
+    ((name : List ℕ) → path ≢ inner_of StopPath name) → (L → IsInner path) → (L → ArePairsWithin locals) → (L → IsFraction place.time) → IsTold L place (body_event place path block locals line)
+body_told L path block locals line place clear inner pairs time = record {
   placed = refl;
   made = record {
     fields = record {
@@ -111,13 +114,14 @@ body_told L path block locals line place inner pairs time = record {
       no_line = λ e. absurd (true≢false e);
     };
     outside = λ w. absurd (true≢false (sym w));
+    unstopped = λ k name e. clear name (some_same e);
   };
   within = λ l. record { time = time l; path = inr (inner l); name = λ n. absurd (true≢false (sym n)); value = within_nil; options = tt; body = pairs l };
 }
 
 pub defined_told : (L : Type 0) (path : List (List ℕ)) (block : BlockRef) (locals : Pairs) (place : Place) →
-    (L → IsInner path) → (L → ArePairsWithin locals) → (L → IsFraction place.time) → IsTold L place (defined_event place path block locals)
-defined_told L path block locals place inner pairs time = record {
+    ((name : List ℕ) → path ≢ inner_of StopPath name) → (L → IsInner path) → (L → ArePairsWithin locals) → (L → IsFraction place.time) → IsTold L place (defined_event place path block locals)
+defined_told L path block locals place clear inner pairs time = record {
   placed = refl;
   made = record {
     fields = record {
@@ -130,6 +134,7 @@ defined_told L path block locals place inner pairs time = record {
       no_line = λ e. refl;
     };
     outside = λ w. absurd (true≢false (sym w));
+    unstopped = λ k name e. clear name (some_same e);
   };
   within = λ l. record { time = time l; path = inr (inner l); name = λ n. absurd (true≢false (sym n)); value = within_nil; options = tt; body = pairs l };
 }
@@ -149,6 +154,7 @@ took_told L path value place good held time = record {
       no_line = λ e. refl;
     };
     outside = λ w. absurd (true≢false (sym w));
+    unstopped = λ k. absurd (k refl);
   };
   within = λ l. record { time = time l; path = good l; name = λ n. absurd (true≢false (sym n)); value = held l; options = tt; body = tt };
 }
@@ -168,6 +174,7 @@ cue_told L path value place good held time other = record {
       no_line = λ e. refl;
     };
     outside = λ w kind name e. other kind name (some_same e);
+    unstopped = λ k name e. other StopPath name (some_same e);
   };
   within = λ l. record { time = time l; path = good l; name = λ n. absurd (true≢false (sym n)); value = held l; options = tt; body = tt };
 }
@@ -193,6 +200,7 @@ set_told L path value place good held time other = record {
       no_line = λ e. refl;
     };
     outside = λ w kind name e. other kind name (some_same e);
+    unstopped = λ k name e. other StopPath name (some_same e);
   };
   within = λ l. record { time = time l; path = good l; name = λ n. absurd (true≢false (sym n)); value = held l; options = tt; body = tt };
 }
@@ -211,6 +219,7 @@ log_told L value place held time = record {
       no_line = λ e. refl;
     };
     outside = λ w. absurd (true≢false (sym w));
+    unstopped = λ k name e. no_some e;
   };
   within = λ l. record { time = time l; path = tt; name = λ n. absurd (true≢false (sym n)); value = held l; options = tt; body = tt };
 }
@@ -231,6 +240,7 @@ play_told L synth note options fx place number symbol held pairs time = record {
       no_line = λ e. refl;
     };
     outside = λ w. absurd (true≢false (sym w));
+    unstopped = λ k name e. no_some e;
   };
   within = λ l. record { time = time l; path = tt; name = λ n. symbol l; value = held l; options = pairs l; body = tt };
 }
@@ -250,6 +260,7 @@ synth_told L name options fx place symbol pairs time = record {
       no_line = λ e. refl;
     };
     outside = λ w. absurd (true≢false (sym w));
+    unstopped = λ k name e. no_some e;
   };
   within = λ l. record { time = time l; path = tt; name = λ n. symbol l; value = within_nil; options = pairs l; body = tt };
 }
@@ -269,6 +280,7 @@ sample_told L sample options fx place named held pairs time = record {
       no_line = λ e. refl;
     };
     outside = λ w. absurd (true≢false (sym w));
+    unstopped = λ k name e. no_some e;
   };
   within = λ l. record { time = time l; path = tt; name = λ n. absurd (true≢false (sym n)); value = held l; options = pairs l; body = tt };
 }
@@ -286,6 +298,7 @@ fx_made place name number options fx small = record {
     no_line = λ e. refl;
   };
   outside = λ w. absurd (true≢false (sym w));
+  unstopped = λ k name e. no_some e;
 }
 
 pub fx_within : (place : Place) (name : List ℕ) (number : ℕ) (options : Pairs) (fx : Option FxId) →
@@ -301,4 +314,29 @@ inner_path kind name symbol = record { kind = kind; name = name; symbol = symbol
 pub name_path_inner : (role : Role) (path : List (List ℕ)) → IsRoleWithin role → name_path role ≡ Some path → IsInner path
 name_path_inner Plain path held e = absurd (no_some e)
 name_path_inner (Named name) path held e = subst IsInner (some_same e) (inner_path NamedPath name held)
-name_path_inner (Looped name wait) path held e = subst IsInner (some_same e) (inner_path LoopedPath name held.0)
+name_path_inner (Looped name wait init) path held e = subst IsInner (some_same e) (inner_path LoopedPath name held.0)
+name_path_inner (Timed rest given line) path held e = absurd (no_some e)
+
+-- the second byte of the first word of a path
+abbrev mark : List (List ℕ) → ℕ
+mark ((a ∷ b ∷ bytes) ∷ words) = b
+mark _ = 0
+
+-- a thread tells of its start and of its end, of bodies and of functions at no path of a stop
+pub body_unstopped : (name other : List ℕ) → inner_of BodyPath name ≢ inner_of StopPath other
+body_unstopped name other e = let z : ◌≡◌ {A = ℕ} 98 115 = ap mark e in omega arith
+
+pub def_unstopped : (name other : List ℕ) → inner_of DefPath name ≢ inner_of StopPath other
+def_unstopped name other e = let z : ◌≡◌ {A = ℕ} 100 115 = ap mark e in omega arith
+
+named_unstopped : (name other : List ℕ) → inner_of NamedPath name ≢ inner_of StopPath other
+named_unstopped name other e = let z : ◌≡◌ {A = ℕ} 110 115 = ap mark e in omega arith
+
+looped_unstopped : (name other : List ℕ) → inner_of LoopedPath name ≢ inner_of StopPath other
+looped_unstopped name other e = let z : ◌≡◌ {A = ℕ} 108 115 = ap mark e in omega arith
+
+pub name_path_unstopped : (role : Role) (path : List (List ℕ)) → name_path role ≡ Some path → (name : List ℕ) → path ≢ inner_of StopPath name
+name_path_unstopped Plain path e name same = no_some e
+name_path_unstopped (Named own) path e name same = named_unstopped own name (some_same e ∙ same)
+name_path_unstopped (Looped own wait init) path e name same = looped_unstopped own name (some_same e ∙ same)
+name_path_unstopped (Timed rest given line) path e name same = no_some e

@@ -7,7 +7,7 @@ use Rattle.std.proofs.lemmas.Bool.{leb-true}
 use Rattle.std.proofs.lemmas.List.Elements.{All-from_recursion, All-head}
 use Rattle.vt_frac.proofs.DecimalLemmas.{both_true}
 use Rattle.vt_path.specs.declared.inner_path.InnerKind.{InnerKind}
-use Rattle.vt_path.specs.declared.inner_path.InnerKind.TheVariants.{Body, Def, Named, Looped}
+use Rattle.vt_path.specs.declared.inner_path.InnerKind.TheVariants.{Body, Def, Named, Looped, Stop}
 use Rattle.vt_path.specs.Byte.{IsPathByte}
 use Rattle.vt_path.specs.Inner.{inner_of, kind_word}
 use Rattle.vt_path.specs.Path.{IsPath, IsSegment}
@@ -73,6 +73,7 @@ kind_marked Body h = marked (98 ∷ 111 ∷ 100 ∷ 121 ∷ []) h
 kind_marked Def h = marked (100 ∷ 101 ∷ 102 ∷ []) h
 kind_marked Named h = marked (110 ∷ 97 ∷ 109 ∷ 101 ∷ []) h
 kind_marked Looped h = marked (108 ∷ 111 ∷ 111 ∷ 112 ∷ []) h
+kind_marked Stop h = marked (115 ∷ 116 ∷ 111 ∷ 112 ∷ []) h
 
 -- a path that a user may write is no inner one
 pub path_outside : (path : List (List ℕ)) → IsPath path → (kind : InnerKind) (name : List ℕ) → path ≢ inner_of kind name

@@ -1,11 +1,12 @@
--- What a value plays is a note.
-use Rattle.std.proofs.Common.{◌≡◌, ℤ, List, [], ◌∷◌, length, map, Bool, true, false, cond, Option, Some, None, Result, Ok, Err, sym, ap, ◌∙◌}
-use Rattle.std.specs.Prelude.{IfOk, IfSome, IsTrue, is_some, unwrap_or}
+-- What a value plays is a note, and its event is well made.
+use Rattle.std.proofs.Common.{◌≡◌, ℤ, List, [], ◌∷◌, length, Bool, true, false, cond, Option, Some, None, Result, Ok, Err, sym, ap, ◌∙◌}
+use Rattle.std.specs.Prelude.{IfOk, IfSome, IsTrue, is_some}
 use Rattle.std.specs.List.{AllByRecursion, filter_map}
-use Rattle.vt_frac.specs.Fraction.{Fraction}
+use Rattle.std.proofs.lemmas.Result.{IfOk-weaker}
+use Rattle.vt_frac.specs.Fraction.{Fraction, IsFraction}
 use Rattle.vt_ring.specs.Answers.{all_of, and_then}
 use Rattle.vt_ring.specs.Signatures.{named_note, note_argument, note_layer}
-use Rattle.vt_ring.proofs.limits.Values.{IsRingWithin, ring_if}
+use Rattle.vt_ring.proofs.Elements.{each_map}
 use Rattle.vt_ring.proofs.limits.Answers.{all_of_gives, and_then_gives, ok_or_gives}
 use Rattle.vt_ring.proofs.limits.NoteCalls.{IsNote, note_argument_gives}
 use Rattle.vt_table.specs.Notes.{note_number}
@@ -14,15 +15,33 @@ use Rattle.vt_value.specs.declared.fault.FaultKind.TheVariants.{WrongKind}
 use Rattle.vt_value.specs.declared.value.Value.{Value, out-Value, out-roll-Value}
 use Rattle.vt_value.specs.declared.value.Value.TheOpen.{Value-F}
 use Rattle.vt_value.specs.declared.value.Value.TheVariants.{Part, Whole, rolls-Part, rolls-Whole}
-use Rattle.vt_value.specs.Kinds.{number_layer, ring_of}
+use Rattle.vt_value.specs.Kinds.{number_layer}
 use Rattle.vt_value.specs.Limits.{AreWithin, IsWithin}
+use Rattle.vt_event.specs.declared.place.Place.{Place}
+use Rattle.vt_event.specs.Event.{EventView}
 use Rattle.vt_event.specs.Kinds.{is_note}
-use Rattle.vt_run.specs.calls.PlayCalls.{each_of, is_rest, note_to_play, notes_to_play}
+use Rattle.vt_event.specs.Pairs.{Pairs}
+use Rattle.vt_run.specs.declared.settings.Settings.{Settings}
+use Rattle.vt_run.specs.calls.Arguments.{each_of}
+use Rattle.vt_run.specs.calls.PlayCalls.{is_rest, note_to_play, notes_asked, notes_to_play, plays_note, plays_notes, with_defaults}
+use Rattle.vt_run.specs.Limits.{ArePairsWithin, AreSettingsWithin}
+use Rattle.vt_run.proofs.facts.ArgumentFacts.{each_of_within}
+use Rattle.vt_run.proofs.facts.EventFacts.{play_told}
+use Rattle.vt_run.proofs.facts.Known.{IsTold}
+use Rattle.vt_run.proofs.facts.PairFacts.{defaults_within}
 
 -- a note, which under L is within the limits
 pub record IsPlayed (L : Type 0) (note : Value) : Type 0 where
   pub number : IsTrue (is_note note)
   pub within : L → IsWithin note
+
+-- notes and silences, the notes within the limits under L
+abbrev pub ArePlayed : Type 0 → List (Option Value) → Type 0
+ArePlayed L notes = AllByRecursion (λ found. IfSome found (IsPlayed L)) notes
+
+-- the same, where their names may name no note
+abbrev pub AreAsked : Type 0 → List (Result (Option Value) FaultKind) → Type 0
+AreAsked L answers = AllByRecursion (λ answer. IfOk answer (λ found. IfSome found (IsPlayed L))) answers
 
 abbrev IsNumber : Value → Type 0
 IsNumber value = IsTrue (is_note value)
@@ -67,13 +86,7 @@ module _ (L : Type 0) where
         and_then_gives (note_argument value) (λ note. Ok (and_then note (λ n. Ok (Some n)))) (λ note. IfOk note (IsPlayed L)) _ (played_gives value h) (λ note played.
         and_then_gives note (λ n. Ok (Some n)) (IsPlayed L) (λ found. IfSome found (IsPlayed L)) played (λ n k. k))
 
-  each_of_within : (value : Value) → IsWithin value → AreWithin (each_of value)
-  each_of_within value h = go (ring_of value) (ring_if value h) where
-    go : (found : Option (List Value)) → IfSome found IsRingWithin → AreWithin (unwrap_or found (value ∷ []))
-    go None k = (h, tt)
-    go (Some items) k = k.each
-
-  each_under : (values : List Value) → (L → AreWithin values) → AllByRecursion (λ (value : Value). L → IsWithin value) values
+  pub each_under : (values : List Value) → (L → AreWithin values) → AllByRecursion (λ (value : Value). L → IsWithin value) values
   each_under [] h = tt
   each_under (value ∷ values) h = (λ l. (h l).0, each_under values (λ l. (h l).1))
 
@@ -84,15 +97,31 @@ module _ (L : Type 0) where
       and_then_gives (all_of answers) _ (λ values. AllByRecursion P values) _ (all_of_each P answers h.1) (λ values ks.
       (k, ks)))
 
-  -- the notes of a value
-  pub notes_to_play_give : (value : Value) → (L → IsWithin value) → IfOk (notes_to_play value) (λ notes. AllByRecursion (λ found. IfSome found (IsPlayed L)) notes)
-  notes_to_play_give value h =
-      and_then_gives (all_of (map note_to_play (each_of value))) all_of (λ answers. AllByRecursion (λ answer. IfOk answer (λ found. IfSome found (IsPlayed L))) answers × (length answers ≡ length (each_of value))) _
+  -- the notes that a value is to play
+  pub notes_asked_give : (value : Value) → (L → IsWithin value) → IfOk (notes_asked value) (AreAsked L)
+  notes_asked_give value h =
+      IfOk-weaker (notes_asked value) (λ answers. AreAsked L answers × (length answers ≡ length (each_of value))) (AreAsked L) (λ answers all. all.0)
       (all_of_gives note_to_play (λ (value : Value). L → IsWithin value) (λ answer. IfOk answer (λ found. IfSome found (IsPlayed L))) to_play_gives (each_of value)
       (each_under (each_of value) (λ l. each_of_within value (h l))))
-      (λ answers all. all_of_each (λ found. IfSome found (IsPlayed L)) answers all.0)
 
-  pub played_each : (notes : List (Option Value)) → AllByRecursion (λ found. IfSome found (IsPlayed L)) notes → AllByRecursion (IsPlayed L) (filter_map (λ note. note) notes)
+  -- those notes, where each of them has a name that names one
+  pub asked_give : (answers : List (Result (Option Value) FaultKind)) → AreAsked L answers → IfOk (all_of answers) (ArePlayed L)
+  asked_give answers h = all_of_each (λ found. IfSome found (IsPlayed L)) answers h
+
+  -- the notes of a value
+  pub notes_to_play_give : (value : Value) → (L → IsWithin value) → IfOk (notes_to_play value) (ArePlayed L)
+  notes_to_play_give value h = and_then_gives (notes_asked value) _ (AreAsked L) (ArePlayed L) (notes_asked_give value h) asked_give
+
+  played_each : (notes : List (Option Value)) → ArePlayed L notes → AllByRecursion (IsPlayed L) (filter_map (λ note. note) notes)
   played_each [] h = tt
   played_each (None ∷ notes) h = played_each notes h.1
   played_each (Some note ∷ notes) h = (h.0, played_each notes h.1)
+
+  -- the events of these notes
+  pub played_told : (options : Pairs) (settings : Settings) (notes : List (Option Value)) → (L → ArePairsWithin options) → (L → AreSettingsWithin settings) → ArePlayed L notes →
+      AllByRecursion (λ event. (place : Place) → (L → IsFraction place.time) → IsTold L place (event place)) (plays_notes options settings notes)
+  played_told options settings notes o s h =
+      each_map (IsPlayed L) (λ (event : Place → EventView). (place : Place) → (L → IsFraction place.time) → IsTold L place (event place)) (plays_note options settings)
+      (λ note p place time. play_told L settings.synth note (with_defaults options settings.defaults) settings.fx place p.number (λ l. (s l).synth) p.within
+      (λ l. defaults_within options settings.defaults (o l) (s l).defaults) time)
+      (filter_map (λ note. note) notes) (played_each notes h)

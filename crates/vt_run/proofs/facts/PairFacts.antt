@@ -1,7 +1,7 @@
 -- Locals, options and tick counters keep to the limits of the language.
 use Rattle.std.proofs.Common.{◌≡◌, ◌<◌, ℕ, List, [], ◌∷◌, ◌++◌, Bool, true, false, cond, Option, Some, None, take}
 use Rattle.std.specs.Prelude.{IfSome, IsTrue, ◌^◌, ℤ, bytes_eq, filter, find, not, unsigned_abs, unwrap_or}
-use Rattle.std.specs.List.{AllByRecursion}
+use Rattle.std.specs.List.{AllByRecursion, zip}
 use Rattle.std.specs.Option.{option_map}
 use Rattle.vt_ring.specs.Signatures.{option_named}
 use Rattle.vt_ring.proofs.limits.Values.{at_some, within_nil}
@@ -30,6 +30,13 @@ module _ {X : Type 0} (P : X → Type 0) (test : X → Bool) where
     go : (b : Bool) → IfSome (find test xs) P → IfSome (cond b (Some x) (find test xs)) P
     go true k = h.0
     go false k = k
+
+-- pairs of what two lists hold
+module _ {X Y : Type 0} (P : X → Type 0) (Q : Y → Type 0) (R : X × Y → Type 0) where
+  pub each_zip : ((x : X) (y : Y) → P x → Q y → R (x, y)) → (xs : List X) (ys : List Y) → AllByRecursion P xs → AllByRecursion Q ys → AllByRecursion R (zip xs ys)
+  each_zip k [] ys h g = tt
+  each_zip k (x ∷ xs) [] h g = tt
+  each_zip k (x ∷ xs) (y ∷ ys) h g = (k x y h.0 g.0, each_zip k xs ys h.1 g.1)
 
 pub map_if : {X Y : Type 0} (f : X → Y) (P : X → Type 0) (Q : Y → Type 0) (found : Option X) → ((x : X) → P x → Q (f x)) → IfSome found P → IfSome (option_map f found) Q
 map_if f P Q None k h = tt

@@ -26,3 +26,7 @@ numbers_from a (suc n) most le few = (within_whole (pos a) (omega (arith, le, fe
 pub numbers_within : (n : ℤ) → unsigned_abs n < 2 ^ 63 → AreWithin (numbers_below n)
 numbers_within (pos n) few = numbers_from 0 n n (omega arith) few
 numbers_within (negsuc n) few = tt
+
+-- the numbers of the turns of a density
+pub below_within : (n : ℕ) → n ≤ 64 → AreWithin (numbers_below (pos n))
+below_within n few = numbers_within (pos n) (omega (arith, few))

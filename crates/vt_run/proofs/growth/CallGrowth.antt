@@ -1,62 +1,71 @@
 -- What is kept by the parts of a run is kept by each call.
 use Rattle.std.proofs.Common.{◌≡◌, ◌≤◌, ◌<◌, inl, inr, ℕ, zero, suc, ◌-◌, List, [], ◌∷◌, ◌++◌, length, ◌+◌, take, cond, Option, Some, None, refl, arith}
-use Rattle.std.specs.Prelude.{ℤ, codes, is_some, nat_lt, ok_or, IsTrue}
+use Rattle.std.specs.Prelude.{◌≢◌, ℤ, pos, codes, is_some, nat_lt, ok_or, IsTrue}
 use Rattle.std.specs.List.{AllByRecursion}
 use Rattle.vt_path.specs.declared.pattern.Segment.{Segment}
-use Rattle.vt_path.specs.declared.inner_path.InnerKind.TheVariants.{Body as BodyPath, Def as DefPath}
+use Rattle.vt_path.specs.declared.inner_path.InnerKind.TheVariants.{Body as BodyPath, Def as DefPath, Stop as StopPath}
 use Rattle.vt_path.specs.Inner.{IsInner, inner_of}
 use Rattle.vt_path.specs.Match.{literal_of}
+use Rattle.vt_path.specs.Pattern.{IsPattern}
 use Rattle.vt_rand.specs.Draw.{random_stream_of}
 use Rattle.vt_ring.specs.Answers.{and_then}
 use Rattle.vt_ring.specs.Signatures.{a_ring, a_whole, option_named}
 use Rattle.vt_ring.proofs.limits.Values.{ring_within_known, within_nil, within_ring, within_whole}
-use Rattle.vt_table.specs.Calls.{call_named}
 use Rattle.vt_table.specs.declared.calls.CallName.{CallName}
-use Rattle.vt_table.specs.declared.calls.CallName.TheVariants.{Cue, CurrentBpm, Define, Each, Get, InThread, LiveLoop, Look, Loop, Map, Play, Print, Puts, Rt, Sample, Set, Sleep, Stop, Sync, Synth, Tick, TickReset, TickSet, Times, UseBpm, UseDebug, UseRandomSeed, UseSynth, UseSynthDefaults, Vt, Wait, WithBpm, WithFx, WithRandomSeed, WithSynth}
+use Rattle.vt_table.specs.declared.calls.CallName.TheVariants.{At, Cue, CurrentBpm, Define, Density, Each, Get, InThread, LiveLoop, Look, Loop, Map, Play, PlayPattern, PlayPatternTimed, Print, Puts, Rt, Sample, Set, Sleep, Stop, Sync, Synth, Tick, TickReset, TickSet, Times, UseBpm, UseDebug, UseRandomSeed, UseSynth, UseSynthDefaults, Vt, Wait, WithBpm, WithFx, WithRandomSeed, WithSynth}
 use Rattle.vt_frac.specs.Fraction.{Fraction, IsFraction}
 use Rattle.vt_value.specs.declared.fault.FaultKind.TheVariants.{NoSleep, TooNested, UnknownName, WrongCount}
 use Rattle.vt_value.specs.declared.value.Value.{Value}
 use Rattle.vt_value.specs.declared.value.Value.TheVariants.{Nil, Ring, Whole}
 use Rattle.vt_value.specs.Arithmetic.{ring_within}
 use Rattle.vt_value.specs.Limits.{AreWithin, IsWithin}
+use Rattle.vt_value.specs.Sizes.{size_of}
 use Rattle.vt_frac.specs.Names.{IsName, is_symbol_name}
 use Rattle.vt_event.specs.declared.references.BlockRef.{BlockRef}
 use Rattle.vt_event.specs.declared.references.FxId.{FxId}
-use Rattle.vt_event.specs.EventsByKind.{body_event, defined_event, fx_event, started_event}
+use Rattle.vt_event.specs.Event.{EventView}
+use Rattle.vt_event.specs.EventsByKind.{body_event, defined_event, fx_event, started_event, took_event}
 use Rattle.vt_event.specs.Pairs.{Pairs}
 use Rattle.vt_run.specs.declared.action.Answer.{Answer}
 use Rattle.vt_run.specs.declared.action.Answer.TheVariants.{Nothing, Found}
 use Rattle.vt_run.specs.declared.action.EndReason.TheVariants.{Stopped}
 use Rattle.vt_run.specs.declared.role.Role.{Role}
-use Rattle.vt_run.specs.declared.role.Role.TheVariants.{Looped}
+use Rattle.vt_run.specs.declared.role.Role.TheVariants.{Timed}
 use Rattle.vt_run.specs.declared.settings.Settings.{Settings}
 use Rattle.vt_run.specs.declared.state.State.{State}
-use Rattle.vt_run.specs.Actions.{acted, emits, name_path, or_fails, reads, rests, syncs}
+use Rattle.vt_run.specs.Actions.{acted, emits, is_own_stop, name_path, or_fails, reads, rests, syncs, takes, woken}
 use Rattle.vt_run.specs.calls.Arguments.{Given, a_symbol, all_args}
-use Rattle.vt_run.specs.Costs.{pair_sizes}
+use Rattle.vt_run.specs.Costs.{pair_sizes, size_if_given}
 use Rattle.vt_run.specs.Environment.{Body, Env, Meaning}
-use Rattle.vt_run.specs.calls.EffectTable.{calls_name, computed, if_built, is_built, performed}
+use Rattle.vt_run.specs.calls.EffectTable.{calls_name, computed, performed}
 use Rattle.vt_run.specs.calls.FunctionCalls.{FoundBody, body_found, calls_found, define_call, found_at, found_with, function_call, runs_found, takes_given}
-use Rattle.vt_run.specs.Limits.{ArePairsWithin, AreSettingsWithin, IsAnswerWithin, IsBodyWithin, IsPatternWithin, IsRoleWithin}
+use Rattle.vt_run.specs.Limits.{ArePairsWithin, AreSettingsWithin, IsAnswerWithin, IsBodyWithin, IsEventWithin, IsPathWithin, IsPatternWithin, IsRoleWithin}
 use Rattle.vt_run.specs.calls.MessageCalls.{a_pattern, cue_call, get_call, puts_call, set_call, sync_call, value_found}
-use Rattle.vt_run.specs.calls.PlayCalls.{play_call, sample_call, synth_call}
+use Rattle.vt_run.specs.calls.PatternCalls.{Item, even_items, play_pattern_call, play_pattern_timed_call, plays_items, timed_items}
+use Rattle.vt_run.specs.calls.PlayCalls.{play_call, plays_notes, sample_call, synth_call}
 use Rattle.vt_run.specs.Scopes.{BlockMeaning, params_with, runs, with_locals}
 use Rattle.vt_run.specs.calls.SettingCalls.{a_seed, a_tempo, in_next_fx, set_back, use_bpm_call, use_debug_call, use_random_seed_call, use_synth_call, use_synth_defaults_call, with_bpm, with_bpm_call, with_fx, with_fx_call, with_random_seed_call, with_stream, with_synth, with_synth_call}
 use Rattle.vt_run.specs.Evaluation.{Evaluation, Ran, Spot, after, gives}
-use Rattle.vt_run.specs.calls.ThreadCalls.{block_ref, in_thread_call, is_alive, live_loop_call, loop_parts, spawns, starts, starts_at, thread_role, unless_nested}
+use Rattle.vt_run.specs.calls.ThreadCalls.{LoopParts, at_call, block_ref, has_spawned, in_thread_call, is_alive, live_loop_call, loop_parts, loop_role, spawns, spawns_timed, starts, starts_at, starts_timed, thread_role, timings, unless_nested}
 use Rattle.vt_run.specs.Tempo.{is_tempo}
 use Rattle.vt_run.specs.Threads.{block_of}
 use Rattle.vt_run.specs.calls.TickCalls.{Counters, look_call, tick_call, tick_reset_call, tick_set_call}
 use Rattle.vt_run.specs.calls.TimeCalls.{beats_of, current_bpm_call, rest_of, rt_call, sleep_call, vt_call}
-use Rattle.vt_run.specs.calls.TurnCalls.{each_call, loop_call, loops, map_call, numbers_below, times_call, turn_begun, turns_over, unless_idle}
-use Rattle.vt_run.proofs.facts.ArgumentFacts.{inner_pattern, loop_fact, pattern_fact, rest_fact, rest_fits, role_fact, symbol_fact, tempo_fact}
-use Rattle.vt_run.proofs.growth.Closures.{BodyGrows, neither, both, SpotGrows, Two, answered_state, low, high, MeaningGrows, charges_keep, cond_keeps, done_keeps, emit_keeps, ends_keep, enters_keep, fails_keep, gives_like, if_keeps, or_fails_keeps, tick_keeps}
+use Rattle.vt_run.specs.calls.TurnCalls.{density_call, density_of, each_call, loop_call, loops, map_call, numbers_below, times_call, turn_begun, turns_over, unless_idle}
+use Rattle.vt_run.proofs.facts.ArgumentFacts.{beats_fit, beats_rest, inner_pattern, loop_fact, pattern_fact, rest_fact, rest_fits, role_fact, symbol_fact, tempo_fact}
+use Rattle.vt_run.proofs.growth.Closures.{BodyGrows, neither, both, SpotGrows, Two, answered_state, low, high, MeaningGrows, charges_keep, cond_keeps, done_keeps, emit_keeps, emits_all_keep, ends_keep, enters_keep, fails_keep, gives_like, if_keeps, or_fails_keeps, tick_keeps}
 use Rattle.vt_run.proofs.facts.DeedFacts.{computed_deed, cue_deed, current_bpm_deed, look_deed, play_deed, puts_deed, rt_deed, sample_deed, set_deed, synth_deed, tick_deed, tick_reset_deed, tick_set_deed, use_bpm_deed, use_debug_deed, use_random_seed_deed, use_synth_deed, use_synth_defaults_deed, vt_deed}
-use Rattle.vt_run.proofs.facts.EventFacts.{body_told, defined_told, inner_path, name_path_inner, started_told}
+use Rattle.vt_run.proofs.facts.EventFacts.{body_told, body_unstopped, def_unstopped, defined_told, inner_path, name_path_inner, name_path_unstopped, started_told, took_told}
 use Rattle.vt_run.proofs.facts.Known.{IsGivenWithin, IsLike, IsStateWithin, PartsWithin, like, place_in}
 use Rattle.vt_run.proofs.facts.PairFacts.{pairs_append, pairs_take, params_within}
-use Rattle.vt_run.proofs.facts.TurnFacts.{numbers_within, ring_items, whole_fits}
+use Rattle.vt_run.proofs.facts.PatternFacts.{HasNotes, IsItem, even_items_fact, even_items_notes, notes_told, timed_items_fact, timed_items_notes}
+use Rattle.vt_run.proofs.facts.TimedFacts.{IsTiming, density_fact, timings_fact}
+use Rattle.vt_run.proofs.facts.TurnFacts.{below_within, numbers_within, ring_items, whole_fits}
 use Rattle.std.proofs.lemmas.Bool.{ltb-true}
+
+-- the same state at another time
+at_time : {time : Fraction} {locals : Pairs} {settings : Settings} {ticks : Counters} (other : Fraction) → PartsWithin time locals settings ticks → IsFraction other → PartsWithin other locals settings ticks
+at_time other p h = record { fraction = h; pairs = p.pairs; set = p.set; counters = p.counters }
 
 -- the same state with other locals, settings
 pub with_pairs : {time : Fraction} {locals : Pairs} {settings : Settings} {ticks : Counters} (others : Pairs) → PartsWithin time locals settings ticks → ArePairsWithin others → PartsWithin time others settings ticks
@@ -215,12 +224,27 @@ module _ (two : Two) where
       two.has.less (omega arith) (reads_keep pattern st last last (λ x. inl (pattern_fact (all_args given) pattern is (g x).args)) s (λ answer a.
       two.has.given two.n (value_found answer) (answered_state st) (λ x. value_found_within answer (a x)) s)))
 
+  -- what is taken; a stop of the thread ends it
+  takes_keep : {n : ℕ} (path : List (List ℕ)) (event : EventView) (st : State) → (two.e.L → IsPathWithin path) → (two.e.L → IsEventWithin event) → Stays st →
+      two.R n st (takes path event (low two) st) (takes path event (high two) st)
+  takes_keep path event st p v s =
+      cond_keeps two (is_own_stop two.e.start.role path) (ends_keep two Stopped st s)
+      (emit_keeps two (took_event (place_in two.e.start st) path event.value) (took_told two.e.L path event.value (place_in two.e.start st) p (λ x. (v x).value) (λ x. (s x).fraction)) s
+      (two.has.given _ event.value (acted st) (λ x. (v x).value) s))
+
+  -- a wait, and what it takes
+  pub syncs_keep : (pattern : List Segment) (st : State) → (two.e.L → IsPattern pattern) → Stays st → two.R two.n st (syncs pattern (low two) st) (syncs pattern (high two) st)
+  syncs_keep pattern st p s =
+      let go = λ (env : Env) (path : List (List ℕ)) (event : EventView) (st : State). takes path event env st in
+      two.has.less (omega arith) (two.has.waited two.n two.text two.turns two.turns' two.body two.body' pattern st (go (low two)) (go (high two)) p s (λ path event q v.
+      takes_keep path event (woken event.place (answered_state st)) q v (λ x. at_time event.place.time (s x) (v x).time)))
+
   sync_grows : (given : Given) → Fits given → MeaningGrows two (sync_call given)
   unfolding sync_call
   sync_grows given g at st s =
       let go = λ (env : Env) (pattern : List Segment). syncs pattern env st in
       or_fails_keeps two (a_pattern (all_args given)) at st (go (low two)) (go (high two)) s (λ pattern is.
-      two.has.synced _ two.text two.turns two.turns' two.body two.body' pattern st (λ x. pattern_fact (all_args given) pattern is (g x).args) s)
+      syncs_keep pattern st (λ x. pattern_fact (all_args given) pattern is (g x).args) s)
 
   sleep_grows : (given : Given) → Fits given → MeaningGrows two (sleep_call given)
   unfolding sleep_call
@@ -232,41 +256,108 @@ module _ (two : Two) where
   nested_keeps : (at : Spot) (st : State) (go go' : State → Ran) → Stays st → (length two.e.start.place.thread < 32 → two.R two.n st (go st) (go' st)) → two.R two.n st (unless_nested (low two) at st go) (unless_nested (high two) at st go')
   nested_keeps at st go go' s h = if_keeps two (nat_lt (length two.e.start.place.thread) 32) (λ e. h (ltb-true _ _ e)) (fails_keep two TooNested at st s)
 
-  spawn_keeps : (role : Role) (block : BlockMeaning) → BlockFits two block → (two.e.L → IsRoleWithin role) → (st : State) → Stays st → length two.e.start.place.thread < 32 → two.R two.n st (spawns role block (low two) st) (spawns role block (high two) st)
-  spawn_keeps role block h r st s less = two.has.spawned _ two.text two.turns two.turns' two.body two.body' role block st less r h.found s
+  -- a child is started, and then what comes next
+  spawn_keeps : (role : Role) (handed : ℕ) (block : BlockMeaning) → BlockFits two block → (two.e.L → IsRoleWithin role) → (st : State) (go go' : State → Ran) → Stays st → two.R two.n (has_spawned st) (go (has_spawned st)) (go' (has_spawned st)) → length two.e.start.place.thread < 32 →
+      two.R two.n st (spawns role handed block (low two) st go) (spawns role handed block (high two) st go')
+  spawn_keeps role handed block h r st go go' s k less = two.has.less (omega arith) (two.has.spawned two.n two.text two.turns two.turns' two.body two.body' role handed block st go go' less r h.found s k)
 
-  starts_at_keeps : (path : Option (List (List ℕ))) (role : Role) (block : BlockMeaning) → BlockFits two block → ((p : List (List ℕ)) → path ≡ Some p → two.e.L → IsInner p) → (two.e.L → IsRoleWithin role) → (at : Spot) (st : State) → Stays st →
-      two.R two.n st (starts_at path role block (low two) at st) (starts_at path role block (high two) at st)
-  starts_at_keeps None role block h inner r at st s =
-      let go = λ (env : Env) (st : State). spawns role block env st in
-      nested_keeps at st (go (low two)) (go (high two)) s (spawn_keeps role block h r st s)
-  starts_at_keeps (Some path) role block h inner r at st s =
-      let told = λ (env : Env) (st : State). emits (λ place. started_event place path) env st (λ st. spawns role block env st) in
+  starts_at_keeps : (path : Option (List (List ℕ))) (role : Role) (handed : ℕ) (block : BlockMeaning) → BlockFits two block → ((p : List (List ℕ)) → path ≡ Some p → (name : List ℕ) → p ≢ inner_of StopPath name) → ((p : List (List ℕ)) → path ≡ Some p → two.e.L → IsInner p) → (two.e.L → IsRoleWithin role) → (at : Spot) (st : State) → Stays st →
+      two.R two.n st (starts_at path role handed block (low two) at st) (starts_at path role handed block (high two) at st)
+  starts_at_keeps None role handed block h outside inner r at st s =
+      let go = λ (env : Env) (st : State). spawns role handed block env st (gives Nil) in
+      nested_keeps at st (go (low two)) (go (high two)) s (spawn_keeps role handed block h r st (gives Nil) (gives Nil) s (two.has.given _ Nil (has_spawned st) (λ x. within_nil) s))
+  starts_at_keeps (Some path) role handed block h outside inner r at st s =
+      let told = λ (env : Env) (st : State). emits (λ place. started_event place path) env st (λ st. spawns role handed block env st (gives Nil)) in
       let go = λ (env : Env) (answer : Answer) (st : State). cond (is_alive answer) (gives Nil st) (unless_nested env at st (told env)) in
       two.has.less (omega arith) (reads_keep {n = two.n} (literal_of path) st (go (low two)) (go (high two)) (λ x. inr (record { path = path; inner = inner path refl x; whole = refl })) s (λ answer a.
       cond_keeps two (is_alive answer) (two.has.given _ Nil (answered_state st) (λ x. within_nil) s) (nested_keeps at (answered_state st) (told (low two)) (told (high two)) s (λ less.
-      emit_keeps two (started_event (place_in two.e.start (answered_state st)) path) (started_told two.e.L path (place_in two.e.start (answered_state st)) (inner path refl) (λ x. (s x).fraction)) s
-      (spawn_keeps role block h r (acted (answered_state st)) s less)))))
+      emit_keeps two (started_event (place_in two.e.start (answered_state st)) path) (started_told two.e.L path (place_in two.e.start (answered_state st)) (outside path refl) (inner path refl) (λ x. (s x).fraction)) s
+      (spawn_keeps role handed block h r (acted (answered_state st)) (gives Nil) (gives Nil) s (two.has.given _ Nil (has_spawned (acted (answered_state st))) (λ x. within_nil) s) less)))))
 
-  starts_keep : (role : Role) (block : BlockMeaning) → BlockFits two block → (two.e.L → IsRoleWithin role) → (at : Spot) (st : State) → Stays st → two.R two.n st (starts role block (low two) at st) (starts role block (high two) at st)
-  starts_keep role block h r at st s = starts_at_keeps (name_path role) role block h (λ path is x. name_path_inner role path (r x) is) r at st s
+  starts_keep : (role : Role) (handed : ℕ) (block : BlockMeaning) → BlockFits two block → (two.e.L → IsRoleWithin role) → (at : Spot) (st : State) → Stays st → two.R two.n st (starts role handed block (low two) at st) (starts role handed block (high two) at st)
+  starts_keep role handed block h r at st s = starts_at_keeps (name_path role) role handed block h (λ path is. name_path_unstopped role path is) (λ path is x. name_path_inner role path (r x) is) r at st s
 
   in_thread_grows : (given : Given) (block : Option BlockMeaning) → Fits given → BlockGrows two block → MeaningGrows two (in_thread_call given block)
   unfolding in_thread_call
   in_thread_grows given None g h at st s = fails_keep two WrongCount at st s
   in_thread_grows given (Some block) g h at st s =
-      let go = λ (env : Env) (role : Role). starts role block env at st in
+      let go = λ (env : Env) (role : Role). starts role 0 block env at st in
       or_fails_keeps two (thread_role (option_named (codes "name") given.options)) at st (go (low two)) (go (high two)) s (λ role is.
-      starts_keep role block h (λ x. role_fact given role is (g x)) at st s)
+      starts_keep role 0 block h (λ x. role_fact given role is (g x)) at st s)
 
   live_loop_grows : (given : Given) (block : Option BlockMeaning) → Fits given → BlockGrows two block → MeaningGrows two (live_loop_call given block)
   unfolding live_loop_call
   live_loop_grows given None g h at st s = fails_keep two WrongCount at st s
   live_loop_grows given (Some block) g h at st s =
-      let go = λ (env : Env) (parts : List ℕ × Option (List Segment)). emits (λ place. body_event place (inner_of BodyPath parts.0) (block_ref env block) st.locals at.line) env st (λ st. starts (Looped parts.0 parts.1) block env at st) in
+      let go = λ (env : Env) (parts : LoopParts). emits (λ place. body_event place (inner_of BodyPath parts.name) (block_ref env block) st.locals at.line) env st (λ st. starts (loop_role parts) (size_if_given parts.init) block env at st) in
       or_fails_keeps two (loop_parts given) at st (go (low two)) (go (high two)) s (λ parts is.
-      emit_keeps two _ (body_told two.e.L (inner_of BodyPath parts.0) (block_ref (low two) block) st.locals at.line (place_in two.e.start st) (λ x. inner_path BodyPath parts.0 (loop_fact given parts is (g x)).0) (λ x. (s x).pairs) (λ x. (s x).fraction)) s
-      (starts_keep (Looped parts.0 parts.1) block h (λ x. loop_fact given parts is (g x)) at (acted st) s))
+      emit_keeps two _ (body_told two.e.L (inner_of BodyPath parts.name) (block_ref (low two) block) st.locals at.line (place_in two.e.start st) (body_unstopped parts.name) (λ x. inner_path BodyPath parts.name (loop_fact given parts is (g x)).0) (λ x. (s x).pairs) (λ x. (s x).fraction)) s
+      (starts_keep (loop_role parts) (size_if_given parts.init) block h (λ x. loop_fact given parts is (g x)) at (acted st) s))
+
+  -- the children of `at`
+  spawns_timed_keep : (timings : List (Fraction × Value)) (block : BlockMeaning) → BlockFits two block → (two.e.L → AllByRecursion IsTiming timings) → length two.e.start.place.thread < 32 → (at : Spot) (st : State) → Stays st →
+      two.R two.n st (spawns_timed timings block (low two) at st) (spawns_timed timings block (high two) at st)
+  spawns_timed_keep [] block h ts less at st s = two.has.given _ Nil st (λ x. within_nil) s
+  spawns_timed_keep (timing ∷ timings) block h ts less at st s =
+      let go = λ (env : Env) (st : State). spawns_timed timings block env at st in
+      spawn_keeps (Timed timing.0 timing.1 at.line) (size_of timing.1) block h (λ x. (ts x).0) st (go (low two)) (go (high two)) s
+      (spawns_timed_keep timings block h (λ x. (ts x).1) less at (has_spawned st) s) less
+
+  starts_timed_keep : (timings : List (Fraction × Value)) (block : BlockMeaning) → BlockFits two block → (two.e.L → AllByRecursion IsTiming timings) → (at : Spot) (st : State) → Stays st →
+      two.R two.n st (starts_timed timings block (low two) at st) (starts_timed timings block (high two) at st)
+  starts_timed_keep [] block h ts at st s = two.has.given _ Nil st (λ x. within_nil) s
+  starts_timed_keep (timing ∷ timings) block h ts at st s =
+      let go = λ (env : Env) (st : State). spawns_timed (timing ∷ timings) block env at st in
+      nested_keeps at st (go (low two)) (go (high two)) s (λ less. spawns_timed_keep (timing ∷ timings) block h ts less at st s)
+
+  at_grows : (given : Given) (block : Option BlockMeaning) → Fits given → BlockGrows two block → MeaningGrows two (at_call given block)
+  unfolding at_call
+  at_grows given None g h at st s = fails_keep two WrongCount at st s
+  at_grows given (Some block) g h at st s =
+      let go = λ (env : Env) (timings : List (Fraction × Value)). starts_timed timings block env at st in
+      or_fails_keeps two (timings given st) at st (go (low two)) (go (high two)) s (λ ts is.
+      starts_timed_keep ts block h (λ x. timings_fact given st ts is (g x) (s x)) at st s)
+
+  density_grows : (given : Given) (block : Option BlockMeaning) → Fits given → BlockGrows two block → MeaningGrows two (density_call given block)
+  unfolding density_call
+  density_grows given None g h at st s = fails_keep two WrongCount at st s
+  density_grows given (Some block) g h at st s =
+      let last = λ (values : List Value) (st : State). gives Nil st in
+      let go = λ (env : Env) (dense : ℕ × Fraction). set_back (with_bpm st.settings.bpm) (turns_over (numbers_below (pos dense.0)) block env at (with_bpm dense.1 st) last) in
+      or_fails_keeps two (density_of given st.settings.bpm) at st (go (low two)) (go (high two)) s (λ dense is.
+      set_back_keeps (with_bpm st.settings.bpm) (λ end. like _ _ _ _ _) (λ x end t. with_settings _ t (bpm_within end.settings st.settings.bpm t.set ((s x).set.bpm, (s x).set.tempo))) _ _
+      (two.has.alike {other = with_bpm dense.1 st} (like _ _ _ _ _)
+      (turns_over_keep (numbers_below (pos dense.0)) block h (λ x. below_within dense.0 (density_fact given st.settings.bpm dense.0 dense.1 is (s x).set.bpm (s x).set.tempo).0) at (with_bpm dense.1 st)
+      (λ x. with_settings _ (s x) (bpm_within st.settings dense.1 (s x).set (density_fact given st.settings.bpm dense.0 dense.1 is (s x).set.bpm (s x).set.tempo).1)) last last
+      (λ values vs st s. two.has.given _ Nil st (λ x. within_nil) s))))
+
+  -- the items of a pattern, one after another
+  plays_items_keep : (items : List Item) (options : Pairs) → AllByRecursion HasNotes items → (two.e.L → AllByRecursion IsItem items) → (two.e.L → ArePairsWithin options) → (at : Spot) (st : State) → Stays st →
+      two.R two.n st (plays_items items options (low two) at st) (plays_items items options (high two) at st)
+  plays_items_keep [] options notes is o at st s = two.has.given _ Nil st (λ x. within_nil) s
+  plays_items_keep (item ∷ items) options notes is o at st s =
+      let next = λ (env : Env) (value : Value) (st : State). plays_items items options env at st in
+      let rest = λ (env : Env) (st : State) (seconds : Fraction). after (rests seconds env st) (next env) in
+      let go = λ (env : Env) (st : State). or_fails (rest_of st item.1) env at st (rest env st) in
+      tick_keeps two (emits_all_keep two (plays_notes options st.settings item.0) st (go (low two)) (go (high two)) s (notes_told two.e.L options st.settings item.0 o (λ x. (s x).set) notes.0 (λ x. (is x).0.0)) (λ end t.
+      or_fails_keeps two (rest_of end item.1) at end (rest (low two) end) (rest (high two) end) t (λ seconds e.
+      two.has.followed _ _ (next (low two)) (next (high two))
+      (two.has.rested _ two.text two.turns two.turns' two.body two.body' seconds end (beats_fit end item.1 seconds e) (λ x. beats_rest end item.1 seconds e (is x).0.1.1 (t x)) t)
+      (λ l w u. plays_items_keep items options notes.1 (λ x. (is x).1) o at l.state u))))
+
+  play_pattern_grows : (given : Given) → Fits given → MeaningGrows two (play_pattern_call given)
+  unfolding play_pattern_call
+  play_pattern_grows given g at st s =
+      let go = λ (env : Env) (items : List Item). plays_items items given.options env at st in
+      or_fails_keeps two (even_items given) at st (go (low two)) (go (high two)) s (λ items is.
+      plays_items_keep items given.options (even_items_notes given items is) (λ x. even_items_fact given items is (g x)) (λ x. (g x).options) at st s)
+
+  play_pattern_timed_grows : (given : Given) → Fits given → MeaningGrows two (play_pattern_timed_call given)
+  unfolding play_pattern_timed_call
+  play_pattern_timed_grows given g at st s =
+      let go = λ (env : Env) (items : List Item). plays_items items given.options env at st in
+      or_fails_keeps two (timed_items given) at st (go (low two)) (go (high two)) s (λ items is.
+      plays_items_keep items given.options (timed_items_notes given items is) (λ x. timed_items_fact given items is (g x)) (λ x. (g x).options) at st s)
 
   define_grows : (given : Given) (block : Option BlockMeaning) → Fits given → MeaningGrows two (define_call given block)
   unfolding define_call
@@ -274,7 +365,7 @@ module _ (two : Two) where
   define_grows given (Some block) g at st s =
       let go = λ (env : Env) (name : List ℕ). emits (λ place. defined_event place (inner_of DefPath name) (block_ref env block) st.locals) env st (gives Nil) in
       or_fails_keeps two (a_symbol (all_args given)) at st (go (low two)) (go (high two)) s (λ name is.
-      emit_keeps two _ (defined_told two.e.L (inner_of DefPath name) (block_ref (low two) block) st.locals (place_in two.e.start st) (λ x. inner_path DefPath name (symbol_fact given name is (g x))) (λ x. (s x).pairs) (λ x. (s x).fraction)) s
+      emit_keeps two _ (defined_told two.e.L (inner_of DefPath name) (block_ref (low two) block) st.locals (place_in two.e.start st) (def_unstopped name) (λ x. inner_path DefPath name (symbol_fact given name is (g x))) (λ x. (s x).pairs) (λ x. (s x).fraction)) s
       (two.has.given _ Nil (acted st) (λ x. within_nil) s))
 
   -- the body that is found, in both environments
@@ -316,9 +407,11 @@ module _ (two : Two) where
 
   performed_grows : (which : CallName) (given : Given) (block : Option BlockMeaning) → Fits given → BlockGrows two block → MeaningGrows two (performed which given block)
   unfolding performed
+  performed_grows At given block g h at st s = at_grows given block g h at st s
   performed_grows Cue given block g h at st s = done_keeps two (cue_call given st) at st s (λ d is. cue_deed two.e.L given st d is g s)
   performed_grows CurrentBpm given block g h at st s = done_keeps two (current_bpm_call given st) at st s (λ d is. current_bpm_deed two.e.L given st d is g s)
   performed_grows Define given block g h at st s = define_grows given block g at st s
+  performed_grows Density given block g h at st s = density_grows given block g h at st s
   performed_grows Each given block g h at st s = each_grows given block g h at st s
   performed_grows Get given block g h at st s = get_grows given g at st s
   performed_grows InThread given block g h at st s = in_thread_grows given block g h at st s
@@ -327,6 +420,8 @@ module _ (two : Two) where
   performed_grows Loop given block g h at st s = loop_grows given block h at st s
   performed_grows Map given block g h at st s = map_grows given block g h at st s
   performed_grows Play given block g h at st s = done_keeps two (play_call given st) at st s (λ d is. play_deed two.e.L given st d is g s)
+  performed_grows PlayPattern given block g h at st s = play_pattern_grows given g at st s
+  performed_grows PlayPatternTimed given block g h at st s = play_pattern_timed_grows given g at st s
   performed_grows Print given block g h at st s = done_keeps two (puts_call given st) at st s (λ d is. puts_deed two.e.L given st d is g s)
   performed_grows Puts given block g h at st s = done_keeps two (puts_call given st) at st s (λ d is. puts_deed two.e.L given st d is g s)
   performed_grows Rt given block g h at st s = done_keeps two (rt_call given st) at st s (λ d is. rt_deed two.e.L given st d is g s)
@@ -356,6 +451,3 @@ module _ (two : Two) where
   pub calls_name_grows : (which : Option CallName) (name : List ℕ) (given : Given) (block : Option BlockMeaning) → (two.e.L → IsTrue (is_symbol_name name)) → Fits given → BlockGrows two block → MeaningGrows two (calls_name which name given block)
   calls_name_grows (Some which) name given block symbol g h at st s = performed_grows which given block g h at st s
   calls_name_grows None name given block symbol g h at st s = function_grows name given symbol g at st s
-
-  pub if_built_grows : (name : List ℕ) (part : Meaning) → MeaningGrows two part → MeaningGrows two (if_built name part)
-  if_built_grows name part h at st s = cond_keeps two (is_built (call_named name)) (h at st s) (fails_keep two UnknownName at st s)

@@ -1,10 +1,11 @@
 -- What a relation between two runs must keep, so that it holds of the runs of every part of a text; and the two environments in which a part is evaluated.
-use Rattle.std.proofs.Common.{◌≡◌, ◌≤◌, ◌<◌, ℕ, zero, suc, ◌-◌, ◌+◌, List, [], ◌∷◌, length, Bool, true, false, cond, Option, Some, None, Result, Ok, Err, refl, arith}
+use Rattle.std.proofs.Common.{◌≡◌, ◌≢◌, ◌≤◌, ◌<◌, ℕ, zero, suc, ◌-◌, ◌+◌, List, [], ◌∷◌, length, Bool, true, false, cond, Option, Some, None, Result, Ok, Err, refl, arith}
 use Rattle.std.specs.Prelude.{nat_lt, is_some, IsOk, IsTrue}
 use Rattle.std.specs.List.{AllByRecursion}
 use Rattle.vt_frac.specs.Fraction.{Fraction, IsFraction}
 use Rattle.vt_path.specs.declared.pattern.Segment.{Segment}
-use Rattle.vt_path.specs.Inner.{IsInner}
+use Rattle.vt_path.specs.declared.inner_path.InnerKind.TheVariants.{Stop as StopPath}
+use Rattle.vt_path.specs.Inner.{IsInner, inner_of}
 use Rattle.vt_path.specs.Pattern.{IsPattern}
 use Rattle.vt_ring.specs.Exact.{exact_sum}
 use Rattle.vt_value.specs.declared.fault.FaultKind.{FaultKind}
@@ -25,16 +26,16 @@ use Rattle.vt_run.specs.declared.role.Role.{Role}
 use Rattle.vt_run.specs.declared.start.Start.{Start}
 use Rattle.vt_run.specs.declared.state.State.{State}
 use Rattle.vt_run.specs.declared.texts.Texts.{Texts}
-use Rattle.vt_run.specs.Actions.{acted, emits_all, ends, fails, name_path, or_fails, reads, rests, syncs, tells_end}
+use Rattle.vt_run.specs.Actions.{acted, emits_all, ends, fails, name_path, or_fails, reads, rests, tells_end, waits, woken}
 use Rattle.vt_run.specs.Costs.{emit_cost}
 use Rattle.vt_run.specs.calls.Deeds.{Deed, done}
 use Rattle.vt_run.specs.Environment.{Body, Env, Meaning}
-use Rattle.vt_run.specs.Limits.{ArePairsWithin, IsAnswerWithin, IsPatternWithin, IsRestWithin, IsRoleWithin, IsStartWithin}
+use Rattle.vt_run.specs.Limits.{ArePairsWithin, IsAnswerWithin, IsEventWithin, IsPathWithin, IsPatternWithin, IsRestWithin, IsRoleWithin, IsStartWithin}
 use Rattle.vt_run.specs.Scopes.{BlockMeaning, enters}
 use Rattle.vt_run.specs.Evaluation.{Evaluation, Left, Next, Ran, Spot, after, charges, does, gives, halts, spends}
-use Rattle.vt_run.specs.calls.ThreadCalls.{spawns}
+use Rattle.vt_run.specs.calls.ThreadCalls.{has_spawned, spawns}
 use Rattle.vt_run.specs.Threads.{block_of, env_of}
-use Rattle.vt_run.proofs.facts.EventFacts.{ended_told, fault_told, name_path_inner}
+use Rattle.vt_run.proofs.facts.EventFacts.{ended_told, fault_told, name_path_inner, name_path_unstopped}
 use Rattle.vt_run.proofs.facts.Known.{IsDeed, IsLike, IsStateWithin, IsTold, place_in}
 
 -- The thread that a relation speaks of: the texts, how the thread starts, and the answers of its reads and waits, in two versions. Under L all that it is given is within the limits of the language.
@@ -79,15 +80,18 @@ pub record Closure (R : ℕ → State → Ran → Ran → Type 0) (e : Subject) 
       (e.L → IsPatternWithin pattern) → (e.L → IsStateWithin st) →
       ((answer : Answer) → (e.L → IsAnswerWithin answer) → R n (answered_state st) (go answer (answered_state st)) (go' answer (answered_state st))) →
       R (suc n) st (reads pattern (env_of e.start text e.answers turns body) st go) (reads pattern (env_of e.start text e.answers' turns' body') st go')
-  pub synced : (n text turns turns' : ℕ) (body body' : BlockRef → Option Body) (pattern : List Segment) (st : State) →
+  pub waited : (n text turns turns' : ℕ) (body body' : BlockRef → Option Body) (pattern : List Segment) (st : State) (go go' : List (List ℕ) → EventView → State → Ran) →
       (e.L → IsPattern pattern) → (e.L → IsStateWithin st) →
-      R n st (syncs pattern (env_of e.start text e.answers turns body) st) (syncs pattern (env_of e.start text e.answers' turns' body') st)
+      ((path : List (List ℕ)) (event : EventView) → (e.L → IsPathWithin path) → (e.L → IsEventWithin event) →
+      R n (woken event.place (answered_state st)) (go path event (woken event.place (answered_state st))) (go' path event (woken event.place (answered_state st)))) →
+      R (suc n) st (waits pattern (env_of e.start text e.answers turns body) st go) (waits pattern (env_of e.start text e.answers' turns' body') st go')
   pub rested : (n text turns turns' : ℕ) (body body' : BlockRef → Option Body) (seconds : Fraction) (st : State) →
       IsOk (exact_sum st.time seconds) → (e.L → IsRestWithin seconds) → (e.L → IsStateWithin st) →
       R n st (rests seconds (env_of e.start text e.answers turns body) st) (rests seconds (env_of e.start text e.answers' turns' body') st)
-  pub spawned : (n text turns turns' : ℕ) (body body' : BlockRef → Option Body) (role : Role) (block : BlockMeaning) (st : State) →
+  pub spawned : (n text turns turns' : ℕ) (body body' : BlockRef → Option Body) (role : Role) (handed : ℕ) (block : BlockMeaning) (st : State) (go go' : State → Ran) →
       length e.start.place.thread < 32 → (e.L → IsRoleWithin role) → (e.L → IsTrue (is_some (block_of e.texts (record { text = text; block = block.number })))) → (e.L → IsStateWithin st) →
-      R n st (spawns role block (env_of e.start text e.answers turns body) st) (spawns role block (env_of e.start text e.answers' turns' body') st)
+      R n (has_spawned st) (go (has_spawned st)) (go' (has_spawned st)) →
+      R (suc n) st (spawns role handed block (env_of e.start text e.answers turns body) st go) (spawns role handed block (env_of e.start text e.answers' turns' body') st go')
 
 -- related from every state in which what the thread holds is within the limits
 abbrev pub SpotGrows : (ℕ → State → Ran → Ran → Type 0) → Type 0 → ℕ → Evaluation → Evaluation → Type 0
@@ -148,14 +152,14 @@ module _ (two : Two) where
   if_keeps true g h = g refl
   if_keeps false g h = h
 
-  tells_end_keeps : {n : ℕ} (reason : EndReason) (path : Option (List (List ℕ))) (st : State) → ((p : List (List ℕ)) → path ≡ Some p → two.e.L → IsInner p) → (two.e.L → IsStateWithin st) →
+  tells_end_keeps : {n : ℕ} (reason : EndReason) (path : Option (List (List ℕ))) (st : State) → ((p : List (List ℕ)) → path ≡ Some p → (name : List ℕ) → p ≢ inner_of StopPath name) → ((p : List (List ℕ)) → path ≡ Some p → two.e.L → IsInner p) → (two.e.L → IsStateWithin st) →
       two.R n st (tells_end path (low two) st (λ st. does 1 (End (place_in two.e.start st) reason) halts)) (tells_end path (high two) st (λ st. does 1 (End (place_in two.e.start st) reason) halts))
-  tells_end_keeps reason None st inner s = two.has.ended _ st reason s
-  tells_end_keeps reason (Some path) st inner s =
-      emit_keeps _ (ended_told two.e.L path (place_in two.e.start st) (inner path refl) (λ l. (s l).fraction)) s (two.has.ended _ (acted st) reason s)
+  tells_end_keeps reason None st outside inner s = two.has.ended _ st reason s
+  tells_end_keeps reason (Some path) st outside inner s =
+      emit_keeps _ (ended_told two.e.L path (place_in two.e.start st) (outside path refl) (inner path refl) (λ l. (s l).fraction)) s (two.has.ended _ (acted st) reason s)
 
   pub ends_keep : {n : ℕ} (reason : EndReason) (st : State) → (two.e.L → IsStateWithin st) → two.R n st (ends reason (low two) st) (ends reason (high two) st)
-  ends_keep reason st s = tells_end_keeps reason (name_path two.e.start.role) st (λ path is l. name_path_inner two.e.start.role path (two.e.within l).role is) s
+  ends_keep reason st s = tells_end_keeps reason (name_path two.e.start.role) st (λ path is. name_path_unstopped two.e.start.role path is) (λ path is l. name_path_inner two.e.start.role path (two.e.within l).role is) s
 
   pub fails_keep : {n : ℕ} (kind : FaultKind) (at : Spot) (st : State) → (two.e.L → IsStateWithin st) → two.R n st (fails kind (low two) at st) (fails kind (high two) at st)
   fails_keep kind at st s = emit_keeps _ (fault_told two.e.L kind at.line (place_in two.e.start st) (λ l. (s l).fraction)) s (ends_keep Faulted (acted st) s)
@@ -174,15 +178,17 @@ module _ (two : Two) where
       two.R n st (gives value other) (gives value other)
   gives_like value other is v s = two.has.alike is (two.has.given _ value other v s)
 
-  emits_all_keep : {n : ℕ} (events : List (Place → EventView)) (st : State) (value : Value) → (two.e.L → IsWithin value) → (two.e.L → IsStateWithin st) →
+  -- events, and what comes next of a state that holds the same
+  pub emits_all_keep : {n : ℕ} (events : List (Place → EventView)) (st : State) (go go' : State → Ran) → (two.e.L → IsStateWithin st) →
       AllByRecursion (λ event. (place : Place) → (two.e.L → IsFraction place.time) → IsTold two.e.L place (event place)) events →
-      two.R n st (emits_all events (low two) st (gives value)) (emits_all events (high two) st (gives value))
-  emits_all_keep [] st value v s told = two.has.given _ value st v s
-  emits_all_keep (event ∷ events) st value v s told =
-      emit_keeps (event (place_in two.e.start st)) (told.0 (place_in two.e.start st) (λ l. (s l).fraction)) s (emits_all_keep events (acted st) value v s told.1)
+      ((end : State) → (two.e.L → IsStateWithin end) → two.R n end (go end) (go' end)) →
+      two.R n st (emits_all events (low two) st go) (emits_all events (high two) st go')
+  emits_all_keep [] st go go' s told h = h st s
+  emits_all_keep (event ∷ events) st go go' s told h =
+      emit_keeps (event (place_in two.e.start st)) (told.0 (place_in two.e.start st) (λ l. (s l).fraction)) s (emits_all_keep events (acted st) go go' s told.1 h)
 
   pub done_keeps : {n : ℕ} (deed : Result Deed FaultKind) (at : Spot) (st : State) → (two.e.L → IsStateWithin st) → ((d : Deed) → deed ≡ Ok d → IsDeed two.e.L st d) →
       two.R n st (done deed (low two) at st) (done deed (high two) at st)
   done_keeps deed at st s h =
       or_fails_keeps deed at st (λ d. emits_all d.events (low two) d.state (gives d.value)) (λ d. emits_all d.events (high two) d.state (gives d.value)) s (λ d is.
-      two.has.alike (h d is).alike (emits_all_keep d.events d.state d.value (h d is).value (h d is).state (h d is).events))
+      two.has.alike (h d is).alike (emits_all_keep d.events d.state (gives d.value) (gives d.value) (h d is).state (h d is).events (λ end t. two.has.given _ d.value end (h d is).value t)))

@@ -1,10 +1,10 @@
 -- What is kept by the parts of a run holds of whole threads.
 use Rattle.std.proofs.Common.{◌≡◌, ◌≤◌, inr, ℕ, zero, suc, ◌-◌, List, [], ◌∷◌, Option, Some, None, refl, sym, subst, arith}
-use Rattle.std.specs.Prelude.{◌++◌, codes, IsTrue}
+use Rattle.std.specs.Prelude.{◌++◌, codes, IsOk, IsTrue}
 use Rattle.std.specs.List.{AllByRecursion}
 use Rattle.std.proofs.lemmas.List.Elements.{recursion_from_All}
 use Rattle.vt_path.specs.declared.pattern.Segment.{Segment}
-use Rattle.vt_path.specs.declared.inner_path.InnerKind.TheVariants.{Body as BodyPath}
+use Rattle.vt_path.specs.declared.inner_path.InnerKind.TheVariants.{Body as BodyPath, Stop as StopPath}
 use Rattle.vt_path.specs.Inner.{inner_of}
 use Rattle.vt_path.specs.Match.{literal_of}
 use Rattle.vt_tree.specs.declared.expression.Node.TheFolds.{every_here-Block}
@@ -13,7 +13,11 @@ use Rattle.vt_tree.specs.WellFormed.{GoodArm, GoodCall, GoodExpr, GoodForm, Good
 use Rattle.vt_value.specs.declared.fault.FaultKind.TheVariants.{NoSleep}
 use Rattle.vt_value.specs.declared.value.Value.{Value}
 use Rattle.vt_value.specs.declared.value.Value.TheVariants.{Ring}
+use Rattle.vt_frac.specs.Fraction.{Fraction, IsFraction}
 use Rattle.vt_frac.specs.Names.{IsName, is_symbol_name}
+use Rattle.vt_ring.specs.Exact.{exact_sum}
+use Rattle.vt_value.specs.Limits.{AreWithin, IsWithin}
+use Rattle.vt_run.specs.Delays.{is_delay}
 use Rattle.vt_event.specs.declared.references.BlockRef.{BlockRef}
 use Rattle.vt_event.specs.EventsByKind.{cue_event}
 use Rattle.vt_event.specs.Pairs.{Pairs}
@@ -21,23 +25,24 @@ use Rattle.vt_run.specs.declared.action.Answer.{Answer}
 use Rattle.vt_run.specs.declared.action.Answer.TheVariants.{Nothing, Found}
 use Rattle.vt_run.specs.declared.action.EndReason.TheVariants.{Done, Stopped}
 use Rattle.vt_run.specs.declared.role.Role.{Role}
-use Rattle.vt_run.specs.declared.role.Role.TheVariants.{Plain, Named, Looped}
+use Rattle.vt_run.specs.declared.role.Role.TheVariants.{Plain, Named, Looped, Timed}
 use Rattle.vt_run.specs.declared.state.State.{State}
 use Rattle.vt_run.specs.declared.texts.Texts.{Texts}
-use Rattle.vt_run.specs.Actions.{acted, ends}
+use Rattle.vt_run.specs.Actions.{acted, ends, rests}
 use Rattle.vt_run.specs.Costs.{pair_sizes}
 use Rattle.vt_run.specs.Environment.{Body, Env}
 use Rattle.vt_run.specs.calls.FunctionCalls.{body_found, found_at, found_with}
 use Rattle.vt_run.specs.Limits.{AreChecked, ArePairsWithin, IsAnswerWithin, IsBodyWithin, IsRoleWithin, IsWaitWithin}
-use Rattle.vt_run.specs.calls.LiveLoops.{live_turns, turn_of, waits_first}
+use Rattle.vt_run.specs.calls.LiveLoops.{is_stopped, live_turns, stops_or, turn_body, turn_of, waits_first}
 use Rattle.vt_run.specs.Scopes.{BlockMeaning, params_with, with_locals}
-use Rattle.vt_run.specs.Evaluation.{Evaluation, Ran, Spot, halts}
-use Rattle.vt_run.specs.Threads.{block_of, body_by, by_role, called, env_of, first_block, first_spot, opening, thread}
+use Rattle.vt_run.specs.Evaluation.{Evaluation, Next, Ran, Spot, after, halts}
+use Rattle.vt_run.specs.Threads.{block_of, body_by, by_role, called, env_of, first_block, first_spot, opening, rests_first, thread}
 use Rattle.vt_run.specs.TreeMeaning.{block_meaning}
 use Rattle.vt_run.specs.calls.TurnCalls.{turn_begun, unless_idle}
 use Rattle.vt_run.proofs.facts.BlocksOfTexts.{FitBlock, IsFitBlock, blocks_fit}
-use Rattle.vt_run.proofs.growth.CallGrowth.{BlockFits, reads_keep, runs_found_keep, with_pairs}
-use Rattle.vt_run.proofs.growth.Closures.{BodyGrows, neither, both, Closure, Subject, SpotGrows, Two, answered_state, charges_keep, cond_keeps, emit_keeps, ends_keep, fails_keep, high, low}
+use Rattle.vt_run.proofs.growth.CallGrowth.{BlockFits, reads_keep, runs_found_keep, syncs_keep, with_pairs}
+use Rattle.vt_run.proofs.growth.Closures.{BodyGrows, neither, both, Closure, Subject, SpotGrows, Two, answered_state, charges_keep, cond_keeps, emit_keeps, ends_keep, fails_keep, high, low, or_fails_keeps}
+use Rattle.vt_run.proofs.facts.ArgumentFacts.{delay_rest}
 use Rattle.vt_run.proofs.facts.EventFacts.{inner_path, turn_told}
 use Rattle.vt_run.proofs.facts.Known.{IsStateWithin, like, place_in}
 use Rattle.vt_run.proofs.facts.PairFacts.{pairs_append, params_within}
@@ -58,65 +63,92 @@ module _ (two : Two) where
   unfolding block_meaning
   meaning_grows block h = tree_grows two block h
 
+  -- what comes next of the value of a turn, in at most j steps that matter
+  abbrev NextKeeps : ℕ → Next → Next → Type 0
+  NextKeeps j go go' = (value : Value) → (two.e.L → IsWithin value) → (st : State) → Stays st → two.R j st (go value st) (go' value st)
+
   -- a turn of a live loop, of at most j steps that matter
-  turn_keeps : (o o' : Option Body) → BodyGrows two.R two.e.L (two.n - 1) o o' → (line : ℕ) (locals : Pairs) → (two.e.L → ArePairsWithin locals) → (j : ℕ) → j ≤ two.n - 1 → (st : State) → Stays st → (go go' : State → Ran) → ((st : State) → Stays st → two.R j st (go st) (go' st)) →
-      two.R j st (turn_of (found_with line locals o) (low two) st go) (turn_of (found_with line locals o') (high two) st go')
-  turn_keeps _ _ neither line locals p j le st s go go' k = ends_keep two Stopped st s
-  turn_keeps _ _ (both params f g names h) line locals p j le st s go go' k =
+  turn_keeps : (o o' : Option Body) → BodyGrows two.R two.e.L (two.n - 1) o o' → (line : ℕ) (locals : Pairs) → (two.e.L → ArePairsWithin locals) → (j : ℕ) → j ≤ two.n - 1 → (value : Value) → (two.e.L → IsWithin value) → (st : State) → Stays st → (go go' : Next) → NextKeeps j go go' →
+      two.R j st (turn_of (found_with line locals o) value (low two) st go) (turn_of (found_with line locals o') value (high two) st go')
+  turn_keeps _ _ neither line locals p j le value v st s go go' k = ends_keep two Stopped st s
+  turn_keeps _ _ (both params f g names h) line locals p j le value v st s go go' k =
       let spot : Spot = record { depth = 0; line = line } in
-      let next = λ (env : Env) (go : State → Ran) (value : Value) (end : State). unless_idle env spot end go in
-      charges_keep two (pair_sizes locals) (two.has.followed _ _ (next (low two) go) (next (high two) go') (two.has.less le (runs_found_keep two params f g names h locals p line [] (λ x. tt) spot st s)) (λ l v t.
-      cond_keeps two l.state.moved (k l.state t) (fails_keep two NoSleep spot l.state t)))
+      let next = λ (env : Env) (go : Next) (value : Value) (end : State). unless_idle env spot end (go value) in
+      charges_keep two (pair_sizes locals) (two.has.followed _ _ (next (low two) go) (next (high two) go') (two.has.less le (runs_found_keep two params f g names h locals p line (value ∷ []) (λ x. (v x, tt)) spot st s)) (λ l w t.
+      cond_keeps two l.state.moved (k l.value w l.state t) (fails_keep two NoSleep spot l.state t)))
 
-  kept_turn_keeps : (kept : Option (BlockRef × Pairs)) (line j : ℕ) → (two.e.L → IsBodyWithin kept) → j ≤ two.n - 1 → (st : State) → Stays st → (go go' : State → Ran) → ((st : State) → Stays st → two.R j st (go st) (go' st)) →
-      two.R j st (turn_of (found_at (low two) line kept) (low two) st go) (turn_of (found_at (high two) line kept) (high two) st go')
-  kept_turn_keeps None line j p le st s go go' k = ends_keep two Stopped st s
-  kept_turn_keeps (Some kept) line j p le st s go go' k = turn_keeps (two.body kept.0) (two.body' kept.0) (two.bodies kept.0) line kept.1 p j le st s go go' k
+  kept_turn_keeps : (kept : Option (BlockRef × Pairs)) (line j : ℕ) → (two.e.L → IsBodyWithin kept) → j ≤ two.n - 1 → (value : Value) → (two.e.L → IsWithin value) → (st : State) → Stays st → (go go' : Next) → NextKeeps j go go' →
+      two.R j st (turn_of (found_at (low two) line kept) value (low two) st go) (turn_of (found_at (high two) line kept) value (high two) st go')
+  kept_turn_keeps None line j p le value v st s go go' k = ends_keep two Stopped st s
+  kept_turn_keeps (Some kept) line j p le value v st s go go' k = turn_keeps (two.body kept.0) (two.body' kept.0) (two.bodies kept.0) line kept.1 p j le value v st s go go' k
 
-  answer_turn_keeps : (answer : Answer) (j : ℕ) → (two.e.L → IsAnswerWithin answer) → j ≤ two.n - 1 → (st : State) → Stays st → (go go' : State → Ran) → ((st : State) → Stays st → two.R j st (go st) (go' st)) →
-      two.R j st (turn_of (body_found (low two) answer) (low two) st go) (turn_of (body_found (high two) answer) (high two) st go')
-  answer_turn_keeps Nothing j a le st s go go' k = ends_keep two Stopped st s
-  answer_turn_keeps (Found event) j a le st s go go' k = kept_turn_keeps event.body event.line j (λ x. (a x).body) le st s go go' k
+  answer_turn_keeps : (answer : Answer) (j : ℕ) → (two.e.L → IsAnswerWithin answer) → j ≤ two.n - 1 → (value : Value) → (two.e.L → IsWithin value) → (st : State) → Stays st → (go go' : Next) → NextKeeps j go go' →
+      two.R j st (turn_of (body_found (low two) answer) value (low two) st go) (turn_of (body_found (high two) answer) value (high two) st go')
+  answer_turn_keeps Nothing j a le value v st s go go' k = ends_keep two Stopped st s
+  answer_turn_keeps (Found event) j a le value v st s go go' k = kept_turn_keeps event.body event.line j (λ x. (a x).body) le value v st s go go' k
 
-  live_turns_keep : (j turns turns' : ℕ) → j ≤ turns → turns ≤ turns' → j ≤ two.n → (name : List ℕ) → (two.e.L → IsTrue (is_symbol_name name)) → (st : State) → Stays st → two.R j st (live_turns turns name (low two) st) (live_turns turns' name (high two) st)
-  live_turns_keep j zero turns' p q r name symbol st s = two.has.less p (two.has.bound st _)
-  live_turns_keep j (suc u) zero p q r name symbol st s = absurd (omega arith)
-  live_turns_keep j (suc u) (suc u') p q r name symbol st s =
-      let go = λ (env : Env) (u : ℕ) (answer : Answer) (st : State). turn_of (body_found env answer) env st (live_turns u name env) in
+  -- a turn that is not stopped
+  turn_body_keeps : (j : ℕ) → j ≤ two.n - 1 → (name : List ℕ) → (two.e.L → IsTrue (is_symbol_name name)) → (value : Value) → (two.e.L → IsWithin value) → (st : State) → Stays st → (go go' : Next) → NextKeeps j go go' →
+      two.R j st (turn_body name value (low two) st go) (turn_body name value (high two) st go')
+  turn_body_keeps j le name symbol value v st s go go' k =
+      let next = λ (env : Env) (go : Next) (answer : Answer) (st : State). turn_of (body_found env answer) value env st go in
+      let read = acted st in
+      let path = codes "live_loop" ∷ name ∷ [] in
+      emit_keeps two (cue_event (place_in two.e.start st) path (Ring []))
+      (turn_told two.e.L name (place_in two.e.start st) symbol (λ x. (s x).fraction)) s
+      (two.has.less (omega arith) (reads_keep two {n = j} (literal_of (inner_of BodyPath name)) read (next (low two) go) (next (high two) go') (λ x. inr (record { path = inner_of BodyPath name; inner = inner_path BodyPath name (symbol x); whole = refl })) s (λ answer a.
+      answer_turn_keeps answer j a le value v (answered_state read) s go go' k)))
+
+  live_turns_keep : (j turns turns' : ℕ) → j ≤ turns → turns ≤ turns' → j ≤ two.n → (name : List ℕ) → (two.e.L → IsTrue (is_symbol_name name)) → (value : Value) → (two.e.L → IsWithin value) → (st : State) → Stays st →
+      two.R j st (live_turns turns name (low two) value st) (live_turns turns' name (high two) value st)
+  live_turns_keep j zero turns' p q r name symbol value v st s = two.has.less p (two.has.bound st _)
+  live_turns_keep j (suc u) zero p q r name symbol value v st s = absurd (omega arith)
+  live_turns_keep j (suc u) (suc u') p q r name symbol value v st s =
+      let go = λ (env : Env) (u : ℕ) (answer : Answer) (st : State). stops_or answer env st (turn_body name value env st (live_turns u name env)) in
       let le : j - 1 ≤ two.n - 1 = omega arith in
       let few : j - 1 ≤ u = omega arith in
       let fewer : u ≤ u' = omega arith in
       let few' : j - 1 ≤ two.n = omega arith in
       let begun = turn_begun st in
-      let read = acted begun in
-      let path = codes "live_loop" ∷ name ∷ [] in
       two.has.less (omega arith) (two.has.spent {n = j - 1} 1 (omega arith) (two.has.alike {other = begun} (like _ _ _ _ _)
-      (emit_keeps two (cue_event (place_in two.e.start begun) path (Ring []))
-      (turn_told two.e.L name (place_in two.e.start begun) symbol (λ x. (s x).fraction)) s
-      (two.has.less (omega arith) (reads_keep two {n = j - 1} (literal_of (inner_of BodyPath name)) read (go (low two) u) (go (high two) u') (λ x. inr (record { path = inner_of BodyPath name; inner = inner_path BodyPath name (symbol x); whole = refl })) s (λ answer a.
-      answer_turn_keeps answer (j - 1) a le (answered_state read) s (live_turns u name (low two)) (live_turns u' name (high two)) (λ st s. live_turns_keep (j - 1) u u' few fewer few' name symbol st s)))))))
+      (two.has.less (omega arith) (reads_keep two {n = j - 1} (literal_of (inner_of StopPath name)) begun (go (low two) u) (go (high two) u') (λ x. inr (record { path = inner_of StopPath name; inner = inner_path StopPath name (symbol x); whole = refl })) s (λ answer a.
+      cond_keeps two (is_stopped two.e.start.place answer) (ends_keep two Stopped (answered_state begun) s)
+      (turn_body_keeps (j - 1) le name symbol value v (answered_state begun) s (live_turns u name (low two)) (live_turns u' name (high two)) (λ value v st s. live_turns_keep (j - 1) u u' few fewer few' name symbol value v st s)))))))
 
-  first_block_keeps : (o o' : Option Body) → BodyGrows two.R two.e.L two.n o o' → (st : State) → Stays st → two.R two.n st (first_block o (low two) st) (first_block o' (high two) st)
-  first_block_keeps _ _ neither st s = ends_keep two Done st s
-  first_block_keeps _ _ (both params f g names h) st s =
+  first_block_keeps : (values : List Value) → (two.e.L → AreWithin values) → (o o' : Option Body) → BodyGrows two.R two.e.L two.n o o' → (st : State) → Stays st → two.R two.n st (first_block values o (low two) st) (first_block values o' (high two) st)
+  first_block_keeps values v _ _ neither st s = ends_keep two Done st s
+  first_block_keeps values v _ _ (both params f g names h) st s =
       let next = λ (env : Env) (value : Value) (end : State). ends Done env end in
-      let inside = with_locals (st.locals ++ params_with params []) st in
+      let inside = with_locals (st.locals ++ params_with params values) st in
       two.has.followed _ _ (next (low two)) (next (high two))
-      (two.has.alike {other = inside} (like _ _ _ _ _) (h first_spot inside (λ x. with_pairs _ (s x) (pairs_append st.locals _ (s x).pairs (params_within params [] (names x) tt)))))
+      (two.has.alike {other = inside} (like _ _ _ _ _) (h first_spot inside (λ x. with_pairs _ (s x) (pairs_append st.locals _ (s x).pairs (params_within params values (names x) (v x))))))
       (λ l v t. ends_keep two Done l.state t)
 
   waits_first_keeps : (wait : Option (List Segment)) → (two.e.L → IsWaitWithin wait) → (st : State) → Stays st → (go go' : State → Ran) → ((st : State) → Stays st → two.R two.n st (go st) (go' st)) → two.R two.n st (waits_first wait (low two) st go) (waits_first wait (high two) st go')
   waits_first_keeps None w st s go go' h = h st s
   waits_first_keeps (Some pattern) w st s go go' h =
       let next = λ (go : State → Ran) (value : Value) (st : State). go st in
-      two.has.followed _ _ (next go) (next go') (two.has.synced _ two.text two.turns two.turns' two.body two.body' pattern st w s) (λ l v t. h l.state t)
+      two.has.followed _ _ (next go) (next go') (syncs_keep two pattern st w s) (λ l v t. h l.state t)
+
+  rests_first_keeps : (rest : Fraction) (line : ℕ) → (two.e.L → IsFraction rest × IsTrue (is_delay rest)) → (st : State) → Stays st → (go go' : State → Ran) → ((st : State) → Stays st → two.R two.n st (go st) (go' st)) →
+      two.R two.n st (rests_first rest line (low two) st go) (rests_first rest line (high two) st go')
+  rests_first_keeps rest line r st s go go' h =
+      let next = λ (go : State → Ran) (value : Value) (st : State). go st in
+      let then = λ (env : Env) (go : State → Ran) (time : Fraction). after (rests rest env st) (next go) in
+      or_fails_keeps two (exact_sum st.time rest) (record { depth = 0; line = line }) st (then (low two) go) (then (high two) go') s (λ time is.
+      two.has.followed _ _ (next go) (next go')
+      (two.has.rested _ two.text two.turns two.turns' two.body two.body' rest st (subst IsOk (sym is) refl) (λ x. delay_rest rest (r x).0 (r x).1) s)
+      (λ l w t. h l.state t))
 
   by_role_keeps : (role : Role) → (two.e.L → IsRoleWithin role) → BodyGrows two.R two.e.L two.n (two.body two.e.start.block) (two.body' two.e.start.block) → (st : State) → Stays st → two.R two.n st (by_role role (low two) st) (by_role role (high two) st)
-  by_role_keeps Plain r h st s = first_block_keeps _ _ h st s
-  by_role_keeps (Named name) r h st s = first_block_keeps _ _ h st s
-  by_role_keeps (Looped name wait) r h st s =
+  by_role_keeps Plain r h st s = first_block_keeps [] (λ x. tt) _ _ h st s
+  by_role_keeps (Named name) r h st s = first_block_keeps [] (λ x. tt) _ _ h st s
+  by_role_keeps (Looped name wait init) r h st s =
       let le : two.n ≤ two.n = omega arith in
-      waits_first_keeps wait (λ x. (r x).1) st s (live_turns two.turns name (low two)) (live_turns two.turns' name (high two)) (λ st s. live_turns_keep two.n two.turns two.turns' two.enough two.more le name (λ x. (r x).0) st s)
+      waits_first_keeps wait (λ x. (r x).1) st s (live_turns two.turns name (low two) init) (live_turns two.turns' name (high two) init) (λ st s. live_turns_keep two.n two.turns two.turns' two.enough two.more le name (λ x. (r x).0) init (λ x. (r x).2) st s)
+  by_role_keeps (Timed rest given line) r h st s =
+      let go = λ (env : Env) (st : State). first_block (given ∷ []) (env.body two.e.start.block) env st in
+      rests_first_keeps rest line (λ x. ((r x).0, (r x).1)) st s (go (low two)) (go (high two)) (λ st s. first_block_keeps (given ∷ []) (λ x. ((r x).2, tt)) _ _ h st s)
 
 module _ (R : ℕ → State → Ran → Ran → Type 0) (e : Subject) (has : Closure R e) (checked : e.L → AreChecked e.texts) where
   body_less : {n m : ℕ} (o o' : Option Body) → m ≤ n → BodyGrows R e.L n o o' → BodyGrows R e.L m o o'

@@ -43,7 +43,7 @@ use Rattle.vt_run.specs.Scopes.{BlockMeaning, assigned, branch, enters, inside_p
 use Rattle.vt_run.specs.Evaluation.{Next, Ran, Spot, after, gives}
 use Rattle.vt_run.specs.TreeMeaning.{ArmMeaning, CallMeaning, LinkMeaning, OfMeanings, arm_layer, assigned_value, at_meanings, bare_name, block_layer, branches, by_layers, call_layer, chained, expr_layer, form_layer, is_met, link_layer, local_or_call, node_body, node_layer, noded, options_of, otherwise, simple_layer, sized, stmt_layer, values_of}
 use Rattle.vt_run.proofs.facts.BlocksOfTexts.{FitBlock, IsFitBlock, fit_layers}
-use Rattle.vt_run.proofs.growth.CallGrowth.{BlockFits, BlockGrows, calls_name_grows, if_built_grows, with_pairs}
+use Rattle.vt_run.proofs.growth.CallGrowth.{BlockFits, BlockGrows, calls_name_grows, with_pairs}
 use Rattle.vt_run.proofs.growth.Closures.{MeaningGrows, Two, charges_keep, cond_keeps, enters_keep, gives_like, high, low, or_fails_keeps, tick_keeps}
 use Rattle.vt_run.proofs.facts.Known.{IsStateWithin, like}
 use Rattle.vt_run.proofs.facts.PairFacts.{assigned_within, lookup_if}
@@ -237,17 +237,17 @@ module _ (two : Two) where
       let last : Env → Spot → List Value → Pairs → State → Ran = λ env at args options st. calls_name (call_named y.name) y.name (record { receiver = receiver; args = args; options = options }) (call_from y).block env at st in
       let optioned : Env → Spot → Spot → List Value → State → Ran = λ env at inner args st. options_of (call_from y).options env inner st (last env at args) in
       let inside : Env → Spot → State → Spot → Ran = λ env at st inner. values_of (call_from y).args env inner st (optioned env at inner) in
-      if_built_grows two y.name (λ env at st. pair_if y.wrapped env at st (inside env at st)) (λ at st s.
+      λ at st s.
       pair_keeps y.wrapped at st s (inside (low two) at st) (inside (high two) at st) (λ inner.
       values_keep y.args inner st s (optioned (low two) at inner) (optioned (high two) at inner) (λ args vs st s.
       options_keep y y.options (λ x. recursion_from_All _ _ (here x).labels) inner st s (last (low two) at args) (last (high two) at args) (λ options os st s.
       calls_name_grows two (call_named y.name) y.name (record { receiver = receiver; args = args; options = options }) (call_from y).block
-      (λ x. label_symbol y.name (here x).name.form) (λ x. given_within receiver args options (r x) (vs x) (os x)) (block_there y y.block) at st s))))
+      (λ x. label_symbol y.name (here x).name.form) (λ x. given_within receiver args options (r x) (vs x) (os x)) (block_there y y.block) at st s)))
 
   local_grows : (found : Option Value) (name : List ℕ) → (two.e.L → IfSome found IsWithin) → (two.e.L → IsName name) → MeaningGrows two (local_or_call found name)
   local_grows (Some value) name v n at st s = given value st v s
   local_grows None name v n at st s =
-      if_built_grows two name (calls_name (call_named name) name no_arguments None) (calls_name_grows two (call_named name) name no_arguments None (λ x. label_symbol name (n x).form) (λ x. nothing_given) tt) at st s
+      calls_name_grows two (call_named name) name no_arguments None (λ x. label_symbol name (n x).form) (λ x. nothing_given) tt at st s
 
   bare_name_grows : (name : List ℕ) → (two.e.L → IsName name) → MeaningGrows two (bare_name name)
   bare_name_grows name n at st s = local_grows (lookup name st.locals) name (λ x. lookup_if name st.locals (s x).pairs) n at st s

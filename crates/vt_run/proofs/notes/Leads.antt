@@ -5,10 +5,11 @@ use Rattle.std.proofs.lemmas.Bool.Decides.{nat_tests}
 use Rattle.vt_path.specs.declared.pattern.Segment.{Segment}
 use Rattle.vt_run.specs.declared.action.Action.{Action}
 use Rattle.vt_run.specs.declared.action.Action.TheVariants.{Read, Wait}
+use Rattle.vt_event.specs.Event.{EventView}
 use Rattle.vt_run.specs.declared.action.Answer.{Answer}
 use Rattle.vt_run.specs.declared.piece.Stop.{Stop}
 use Rattle.vt_run.specs.declared.state.State.{State}
-use Rattle.vt_run.specs.Actions.{acted, answered, place_of, reads, waits}
+use Rattle.vt_run.specs.Actions.{acted, answered, place_of, reads, stop_pattern, waits, wakes_by}
 use Rattle.vt_run.specs.Environment.{Env}
 use Rattle.vt_run.specs.Leads.{Leads, LeadsOn}
 use Rattle.vt_run.specs.Notes.{IsOpen, IsOver, Notes, capped, finished, kept_at, note, noted, seen, unless_over, unless_skipped, unless_stopped}
@@ -158,9 +159,10 @@ leads_read pattern env answer st old new is_given made = leads_found (Read (plac
 -- a wait that is answered
 pub leads_wait : (pattern : List Segment) (env : Env) (answer : Answer) (st : State) (old new : Notes) →
     slice_get env.answers st.used ≡ Some answer →
-    ((ran : Ran) → Leads (does 1 (Wait (place_of env st) pattern) ran) old ran new) →
-    LeadsOn (Some answer) (waits pattern env st) old (record (acted st) { used = st.used + 1 }) new
-leads_wait pattern env answer st old new is_given made = leads_found (Wait (place_of env st) pattern) (slice_get env.answers st.used) answer (acted st) old new is_given made
+    ((ran : Ran) → Leads (does 1 (Wait (place_of env st) pattern (stop_pattern env.start.role)) ran) old ran new) →
+    (go : List (List ℕ) → EventView → State → Ran) → Leads (waits pattern env st go) old (wakes_by answer (record (acted st) { used = st.used + 1 }) go) new
+leads_wait pattern env answer st old new is_given made go =
+    leads_found (Wait (place_of env st) pattern (stop_pattern env.start.role)) (slice_get env.answers st.used) answer (acted st) old new is_given made (λ answer st. wakes_by answer st go)
 
 -- an action that asks, where the thread has no further answer
 pub leads_missing : (action : Action) (given : Option Answer) (st end : State) (old mid new : Notes) →

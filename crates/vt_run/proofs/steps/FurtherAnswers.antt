@@ -5,13 +5,13 @@ use Rattle.vt_run.specs.declared.action.Answer.{Answer}
 use Rattle.vt_run.specs.declared.start.Start.{Start}
 use Rattle.vt_run.specs.declared.state.State.{State}
 use Rattle.vt_run.specs.declared.texts.Texts.{Texts}
-use Rattle.vt_run.specs.Actions.{acted, answered, takes_answer}
+use Rattle.vt_run.specs.Actions.{acted, answered, wakes_by}
 use Rattle.vt_run.specs.laws.StepLaws.{AnswersLaw, IsPrefix}
 use Rattle.vt_run.specs.Evaluation.{Ran, Step, step}
 use Rattle.vt_run.specs.Threads.{acts, env_of}
 use Rattle.vt_run.proofs.growth.Closures.{Closure, answered_state}
 use Rattle.vt_run.proofs.growth.Growth.{Grows, same, cut, less, step_grows, halts_grow, after_grows}
-use Rattle.vt_run.proofs.steps.Prefixes.{evaluation, takes_answer_same}
+use Rattle.vt_run.proofs.steps.Prefixes.{answer_wakes, evaluation}
 use Rattle.vt_run.proofs.growth.ThreadGrowth.{of_thread}
 
 -- the second is the first, where there is a first
@@ -44,12 +44,11 @@ more_answers texts start answers more = record {
   followed = λ {n} {st} a b k k' h f. after_grows a b k k' h (λ l. f l (λ x. absurd x) (λ x. absurd x));
   asked = λ n text turns turns' body body' pattern st go go' p s h.
       asked_more _ (slice_get answers st.used) (slice_get (answers ++ more) st.used) st go go' (further_adds answers more st.used) (λ answer. h answer (λ x. absurd x));
-  synced = λ n text turns turns' body body' pattern st p s.
-      asked_more _ (slice_get answers st.used) (slice_get (answers ++ more) st.used) st
-      (takes_answer (env_of start text answers turns body)) (takes_answer (env_of start text (answers ++ more) turns' body')) (further_adds answers more st.used)
-      (λ answer. same (takes_answer_same start answers (answers ++ more) text turns turns' body body' answer (answered_state st)));
+  waited = λ n text turns turns' body body' pattern st go go' p s h.
+      asked_more _ (slice_get answers st.used) (slice_get (answers ++ more) st.used) st (λ answer st. wakes_by answer st go) (λ answer st. wakes_by answer st go') (further_adds answers more st.used)
+      (λ answer. answer_wakes 0 answer (answered_state st) go go' (λ path event. h path event (λ x. absurd x) (λ x. absurd x)));
   rested = λ n text turns turns' body body' seconds st ok r s. same refl;
-  spawned = λ n text turns turns' body body' role block st nested r b s. same refl;
+  spawned = λ n text turns turns' body body' role handed block st go go' nested r b s h. less (omega arith) (step_grows _ h);
 }
 
 -- a prefix of a prefix

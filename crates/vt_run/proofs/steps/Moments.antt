@@ -38,7 +38,7 @@ started_one : (action : Action) → started_by action ≡ starts_in_one (Some ac
 started_one (Emit event) = refl
 started_one (Rest place seconds) = refl
 started_one (Read place pattern) = refl
-started_one (Wait place pattern) = refl
+started_one (Wait place pattern stop) = refl
 started_one (Spawn place start) = refl
 started_one (End place reason) = refl
 

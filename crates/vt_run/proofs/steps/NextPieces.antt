@@ -83,7 +83,7 @@ last_stops : (until : Fraction) (answers : List Answer) (action : Action) → Is
 last_stops until answers (Emit event) last e = cc
 last_stops until answers (Rest place seconds) last e = rest_stops _ last e
 last_stops until answers (Read place pattern) last e = cc
-last_stops until answers (Wait place pattern) last e = cc
+last_stops until answers (Wait place pattern stop) last e = cc
 last_stops until answers (Spawn place start) last e = cc
 last_stops until answers (End place reason) last e = cc
 

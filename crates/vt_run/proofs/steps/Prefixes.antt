@@ -11,9 +11,9 @@ use Rattle.vt_run.specs.declared.action.Answer.TheVariants.{Nothing, Found}
 use Rattle.vt_run.specs.declared.start.Start.{Start}
 use Rattle.vt_run.specs.declared.state.State.{State}
 use Rattle.vt_run.specs.declared.texts.Texts.{Texts}
-use Rattle.vt_run.specs.Actions.{acted, answered, place_of, takes, takes_answer, waits}
+use Rattle.vt_run.specs.Actions.{acted, answered, place_of, wakes_by, wakes_with, woken}
 use Rattle.vt_run.specs.Environment.{Body}
-use Rattle.vt_run.specs.Evaluation.{Ran, does}
+use Rattle.vt_run.specs.Evaluation.{Ran, Step, does, step}
 use Rattle.vt_run.specs.Threads.{acts, env_of, thread}
 use Rattle.vt_run.proofs.growth.Closures.{Closure, Subject, answered_state}
 use Rattle.vt_run.proofs.growth.Growth.{Grows, same, less, step_grows, halts_grow, after_grows, prefix_same}
@@ -31,15 +31,26 @@ asked_on : (n : ℕ) (place : Place) (pattern : List Segment) (answer : Option A
 asked_on n place pattern None st go go' h = same refl
 asked_on n place pattern (Some answer) st go go' h = step_grows _ (h answer)
 
--- what is taken does not see the answers, the bound or the blocks
-module _ (start : Start) (answers answers' : List Answer) (text turns turns' : ℕ) (body body' : BlockRef → Option Body) where
-  takes_same : (path : Option (List (List ℕ))) (event : EventView) (st : State) → takes path event (env_of start text answers turns body) st ≡ takes path event (env_of start text answers' turns' body') st
-  takes_same None event st = refl
-  takes_same (Some path) event st = refl
+-- what a wait wakes, where the bound grows
+module _ (n : ℕ) where
+  path_wakes : (path : Option (List (List ℕ))) (event : EventView) (st : State) (go go' : List (List ℕ) → EventView → State → Ran) →
+      ((path : List (List ℕ)) → Grows n (go path event (woken event.place st)) (go' path event (woken event.place st))) →
+      Grows n (wakes_with path event st go) (wakes_with path event st go')
+  path_wakes None event st go go' h = same refl
+  path_wakes (Some path) event st go go' h = h path
 
-  pub takes_answer_same : (answer : Answer) (st : State) → takes_answer (env_of start text answers turns body) answer st ≡ takes_answer (env_of start text answers' turns' body') answer st
-  takes_answer_same Nothing st = refl
-  takes_answer_same (Found event) st = takes_same event.path event st
+  pub answer_wakes : (answer : Answer) (st : State) (go go' : List (List ℕ) → EventView → State → Ran) →
+      ((path : List (List ℕ)) (event : EventView) → Grows n (go path event (woken event.place st)) (go' path event (woken event.place st))) →
+      Grows n (wakes_by answer st go) (wakes_by answer st go')
+  answer_wakes Nothing st go go' h = same refl
+  answer_wakes (Found event) st go go' h = path_wakes event.path event st go go' (λ path. h path event)
+
+-- a wait, where the bound grows
+waited_on : (n : ℕ) (s : Step) (answer : Option Answer) (st : State) (go go' : List (List ℕ) → EventView → State → Ran) →
+    ((path : List (List ℕ)) (event : EventView) → Grows n (go path event (woken event.place (answered_state st))) (go' path event (woken event.place (answered_state st)))) →
+    Grows (suc n) (step s (answered answer (acted st) (λ answer st. wakes_by answer st go))) (step s (answered answer (acted st) (λ answer st. wakes_by answer st go')))
+waited_on n s None st go go' h = same refl
+waited_on n s (Some answer) st go go' h = step_grows _ (answer_wakes n answer (answered_state st) go go' h)
 
 growth : (texts : Texts) (start : Start) (answers : List Answer) → Closure (λ n st a b. Grows n a b) (evaluation texts start answers answers)
 growth texts start answers = record {
@@ -53,10 +64,9 @@ growth texts start answers = record {
   ended = λ n st reason s. same refl;
   followed = λ {n} {st} a b k k' h f. after_grows a b k k' h (λ l. f l (λ x. absurd x) (λ x. absurd x));
   asked = λ n text turns turns' body body' pattern st go go' p s h. asked_on n (place_of (env_of start text answers turns body) st) pattern (slice_get answers st.used) st go go' (λ answer. h answer (λ x. absurd x));
-  synced = λ n text turns turns' body body' pattern st p s.
-      same (ap (λ (go : Answer → State → Ran). waits pattern (env_of start text answers turns body) st go) (λ i answer st. takes_answer_same start answers answers text turns turns' body body' answer st i));
+  waited = λ n text turns turns' body body' pattern st go go' p s h. waited_on n _ (slice_get answers st.used) st go go' (λ path event. h path event (λ x. absurd x) (λ x. absurd x));
   rested = λ n text turns turns' body body' seconds st ok r s. same refl;
-  spawned = λ n text turns turns' body body' role block st nested r b s. same refl;
+  spawned = λ n text turns turns' body body' role handed block st go go' nested r b s h. step_grows _ h;
 }
 
 -- the first n steps under any bound from n on

@@ -6,6 +6,7 @@ use Rattle.vt_run.specs.declared.action.Action.TheVariants.{Emit, Rest, Read, Wa
 use Rattle.vt_run.specs.declared.action.Answer.{Answer}
 use Rattle.vt_run.specs.declared.start.Start.{Start}
 use Rattle.vt_run.specs.declared.state.State.{State}
+use Rattle.vt_run.specs.Actions.{stop_pattern}
 use Rattle.vt_run.specs.Limits.{IsActionWithin, IsEventWithin}
 use Rattle.vt_run.specs.laws.StepFacts.{IsChild, IsEffectSmall}
 use Rattle.vt_run.specs.Evaluation.{Left, Next, Ran, Step, does, goes_on}
@@ -26,7 +27,7 @@ abbrev pub IsActionRight : Subject → Moment → Action → Type 0
 IsActionRight e now (Emit event) = IsEffectSmall e.start event → IsWellMade event × (e.L → IsEventWithin event)
 IsActionRight e now (Rest place seconds) = e.L → IsActionWithin (Rest place seconds)
 IsActionRight e now (Read place pattern) = e.L → IsActionWithin (Read place pattern)
-IsActionRight e now (Wait place pattern) = e.L → IsActionWithin (Wait place pattern)
+IsActionRight e now (Wait place pattern stop) = (stop ≡ stop_pattern e.start.role) × (e.L → IsActionWithin (Wait place pattern stop))
 IsActionRight e now (Spawn place child) = IsChild e.start place now.children child × (e.L → IsTrue (is_some (block_of e.texts child.block))) × (e.L → IsActionWithin (Spawn place child))
 IsActionRight e now (End place reason) = e.L → IsActionWithin (End place reason)
 

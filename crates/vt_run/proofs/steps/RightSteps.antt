@@ -22,7 +22,7 @@ use Rattle.vt_frac.specs.Names.{is_symbol_name}
 use Rattle.vt_event.specs.declared.place.Place.{Place}
 use Rattle.vt_event.specs.declared.references.BlockRef.{BlockRef}
 use Rattle.vt_event.specs.Event.{EventView}
-use Rattle.vt_event.specs.EventsByKind.{fx_event, took_event}
+use Rattle.vt_event.specs.EventsByKind.{fx_event}
 use Rattle.vt_event.specs.Pairs.{Pairs}
 use Rattle.vt_event.proofs.Order.{before-place}
 use Rattle.vt_run.specs.declared.action.Action.TheVariants.{Emit, Rest, Read, Wait, Spawn, End}
@@ -31,10 +31,10 @@ use Rattle.vt_run.specs.declared.action.Answer.TheVariants.{Nothing, Found}
 use Rattle.vt_run.specs.declared.action.EndReason.{EndReason}
 use Rattle.vt_run.specs.declared.role.Role.{Role}
 use Rattle.vt_run.specs.declared.state.State.{State}
-use Rattle.vt_run.specs.Actions.{acted, answered, is_past, rested, takes, takes_answer, time_after, woken}
+use Rattle.vt_run.specs.Actions.{acted, answered, is_past, rested, stop_pattern, time_after, wakes_by, wakes_with, woken}
 use Rattle.vt_run.specs.Costs.{emit_cost, spawn_cost}
 use Rattle.vt_run.specs.Environment.{Body}
-use Rattle.vt_run.specs.Limits.{ArePairsWithin, IsAnswerWithin, IsEventWithin, IsPatternWithin, IsRestWithin, IsRoleWithin, IsSomePathWithin, IsStartWithin}
+use Rattle.vt_run.specs.Limits.{ArePairsWithin, IsAnswerWithin, IsEventWithin, IsPathWithin, IsPatternWithin, IsRestWithin, IsRoleWithin, IsSomePathWithin, IsStartWithin}
 use Rattle.vt_run.specs.Scopes.{BlockMeaning}
 use Rattle.vt_run.specs.laws.StepFacts.{IsChild, IsEffectSmall}
 use Rattle.vt_run.specs.Evaluation.{Left, Next, Ran, after, does, gives, halts, spends}
@@ -42,10 +42,11 @@ use Rattle.vt_run.specs.calls.ThreadCalls.{child_of, has_spawned, spawns}
 use Rattle.vt_run.specs.Threads.{block_of, env_of}
 use Rattle.vt_run.specs.WellMade.{IsWellMade}
 use Rattle.vt_run.proofs.growth.Closures.{Closure, Subject, answered_state, effect_step, effected_state}
-use Rattle.vt_run.proofs.facts.EventFacts.{fx_made, fx_within, took_told}
+use Rattle.vt_run.proofs.facts.ArgumentFacts.{stop_within}
+use Rattle.vt_run.proofs.facts.EventFacts.{fx_made, fx_within}
 use Rattle.vt_run.proofs.facts.Known.{IsLike, IsStateWithin, IsTold, place_in}
 use Rattle.vt_run.proofs.steps.Moments.{Moment, moment_after}
-use Rattle.vt_run.proofs.steps.RightRuns.{IsLeft, IsRun, Right, moment_in, run_begins, run_ends, run_goes_on, run_less}
+use Rattle.vt_run.proofs.steps.RightRuns.{IsDone, IsLeft, IsRun, Right, moment_in, run_begins, run_ends, run_goes_on, run_less}
 use Rattle.vt_run.specs.Standing.{is_one_left, left_of, next_step, place_woken, wakes}
 
 -- no child more
@@ -192,46 +193,44 @@ module _ (e : Subject) where
       (answer_used st answer (place_in e.start (acted st)) is)
       (fewer_right n (answered_state st) (go answer (answered_state st)) (h answer (λ l. answer_within e.answers st.used answer is (all l)) (omega (arith, effects))))
 
-  -- what a wait takes, by the path of its event
-  takes_right : (n text turns : ℕ) (body : BlockRef → Option Body) (st : State) (pattern : List Segment) (event : EventView) (path : Option (List (List ℕ))) →
+  -- a wait, at its moment
+  wait_done : (st : State) (pattern : List Segment) → (e.L → IsPattern pattern) → (e.L → IsStateWithin st) →
+      IsDone e (moment_in e.start e.answers st) (Wait (place_in e.start st) pattern (stop_pattern e.start.role))
+  wait_done st pattern p s = record { placed = refl; right = (refl, λ l. ((s l).fraction, p l, stop_within e.start.role (e.within l).role)) }
+
+  -- what a wait leads to, by the path of its event
+  woken_right : (n : ℕ) (st : State) (pattern : List Segment) (go : List (List ℕ) → EventView → State → Ran) (event : EventView) (path : Option (List (List ℕ))) →
       slice_get e.answers st.used ≡ Some (Found event) → event.path ≡ path →
-      (e.L → AllByRecursion IsAnswerWithin e.answers) → (e.L → IsPattern pattern) → (e.L → IsStateWithin st) → st.effects + e.start.place.step ≤ st.step →
-      IsRun e n (moment_in e.start e.answers st) (does 1 (Wait (place_in e.start st) pattern) (takes path event (env_of e.start text e.answers turns body) (answered_state st))).steps
-      (does 1 (Wait (place_in e.start st) pattern) (takes path event (env_of e.start text e.answers turns body) (answered_state st))).left
-  takes_right n text turns body st pattern event None is none all p s effects =
-      run_ends e n (moment_in e.start e.answers st) 1 (Wait (place_in e.start st) pattern) (omega arith) (record { placed = refl; right = λ l. ((s l).fraction, p l) })
+      (e.L → AllByRecursion IsAnswerWithin e.answers) → (e.L → IsPattern pattern) → (e.L → IsStateWithin st) →
+      ((path : List (List ℕ)) → (e.L → IsPathWithin path) → (e.L → IsEventWithin event) → IsRun e n (moment_in e.start e.answers (woken event.place (answered_state st))) (go path event (woken event.place (answered_state st))).steps (go path event (woken event.place (answered_state st))).left) →
+      IsRun e (suc n) (moment_in e.start e.answers st) (does 1 (Wait (place_in e.start st) pattern (stop_pattern e.start.role)) (wakes_with path event (answered_state st) go)).steps
+      (does 1 (Wait (place_in e.start st) pattern (stop_pattern e.start.role)) (wakes_with path event (answered_state st) go)).left
+  woken_right n st pattern go event None is none all p s h =
+      run_ends e (suc n) (moment_in e.start e.answers st) 1 (Wait (place_in e.start st) pattern (stop_pattern e.start.role)) (omega arith) (wait_done st pattern p s)
       (ap (λ (answers : List Answer). not (wakes answers)) (answers_left e.answers st.used (Found event) is) ∙ ap (λ (path : Option (List (List ℕ))). not (is_some path)) none)
-  takes_right n text turns body st pattern event (Some path) is some all p s effects =
+  woken_right n st pattern go event (Some path) is some all p s h =
       let awake : State = woken event.place (answered_state st) in
       let event_within : e.L → IsEventWithin event = λ l. answer_within e.answers st.used (Found event) is (all l) in
-      let told : IsTold e.L (place_in e.start awake) (took_event (place_in e.start awake) path event.value) =
-      took_told e.L path event.value (place_in e.start awake) (λ l. subst IsSomePathWithin some (event_within l).path) (λ l. (event_within l).value) (λ l. (event_within l).time) in
-      run_begins e n (moment_in e.start e.answers st) (moment_in e.start e.answers awake) 1 (Wait (place_in e.start st) pattern)
-      (does (emit_cost (took_event (place_in e.start awake) path event.value)) (Emit (took_event (place_in e.start awake) path event.value)) (gives event.value (acted awake)))
-      (omega arith) (record { placed = refl; right = λ l. ((s l).fraction, p l) })
+      run_begins e (suc n) (moment_in e.start e.answers st) (moment_in e.start e.answers awake) 1 (Wait (place_in e.start st) pattern (stop_pattern e.start.role))
+      (go path event awake) (omega arith) (wait_done st pattern p s)
       (ap (λ (answers : List Answer). not (wakes answers)) (answers_left e.answers st.used (Found event) is) ∙ ap (λ (path : Option (List (List ℕ))). not (is_some path)) some)
       (ap (λ (answers : List Answer). record { stand = record { place = next_step (place_woken answers (place_in e.start st)); answers = left_of answers }; children = st.children + 0 }) (answers_left e.answers st.used (Found event) is)
       ∙ no_child st (λ k. record { stand = record { place = place_in e.start awake; answers = drop (st.used + 1) e.answers }; children = k }))
-      (emits_right (n - 1) awake (took_event (place_in e.start awake) path event.value) (gives event.value (acted awake)) told.placed (λ small. (told.made, told.within))
-      (record {
-        moment = refl;
-        value = λ l. (event_within l).value;
-        state = λ l. record { fraction = (event_within l).time; pairs = (s l).pairs; set = (s l).set; counters = (s l).counters };
-        effects = omega (arith, effects);
-      }))
+      (fewer_right n awake (go path event awake) (h path (λ l. subst IsSomePathWithin some (event_within l).path) event_within))
 
-  synced_right : (n text turns : ℕ) (body : BlockRef → Option Body) (st : State) (pattern : List Segment) (found : Option Answer) → slice_get e.answers st.used ≡ found →
-      (e.L → AllByRecursion IsAnswerWithin e.answers) → (e.L → IsPattern pattern) → (e.L → IsStateWithin st) → st.effects + e.start.place.step ≤ st.step →
-      IsRun e n (moment_in e.start e.answers st) (does 1 (Wait (place_in e.start st) pattern) (answered found (acted st) (takes_answer (env_of e.start text e.answers turns body)))).steps
-      (does 1 (Wait (place_in e.start st) pattern) (answered found (acted st) (takes_answer (env_of e.start text e.answers turns body)))).left
-  synced_right n text turns body st pattern None is all p s effects =
-      run_ends e n (moment_in e.start e.answers st) 1 (Wait (place_in e.start st) pattern) (omega arith) (record { placed = refl; right = λ l. ((s l).fraction, p l) })
+  waited_right : (n : ℕ) (st : State) (pattern : List Segment) (go : List (List ℕ) → EventView → State → Ran) (found : Option Answer) → slice_get e.answers st.used ≡ found →
+      (e.L → AllByRecursion IsAnswerWithin e.answers) → (e.L → IsPattern pattern) → (e.L → IsStateWithin st) →
+      ((path : List (List ℕ)) (event : EventView) → (e.L → IsPathWithin path) → (e.L → IsEventWithin event) → IsRun e n (moment_in e.start e.answers (woken event.place (answered_state st))) (go path event (woken event.place (answered_state st))).steps (go path event (woken event.place (answered_state st))).left) →
+      IsRun e (suc n) (moment_in e.start e.answers st) (does 1 (Wait (place_in e.start st) pattern (stop_pattern e.start.role)) (answered found (acted st) (λ answer st. wakes_by answer st go))).steps
+      (does 1 (Wait (place_in e.start st) pattern (stop_pattern e.start.role)) (answered found (acted st) (λ answer st. wakes_by answer st go))).left
+  waited_right n st pattern go None is all p s h =
+      run_ends e (suc n) (moment_in e.start e.answers st) 1 (Wait (place_in e.start st) pattern (stop_pattern e.start.role)) (omega arith) (wait_done st pattern p s)
       (ap (λ (answers : List Answer). not (wakes answers)) (none_left e.answers st.used is))
-  synced_right n text turns body st pattern (Some Nothing) is all p s effects =
-      run_ends e n (moment_in e.start e.answers st) 1 (Wait (place_in e.start st) pattern) (omega arith) (record { placed = refl; right = λ l. ((s l).fraction, p l) })
+  waited_right n st pattern go (Some Nothing) is all p s h =
+      run_ends e (suc n) (moment_in e.start e.answers st) 1 (Wait (place_in e.start st) pattern (stop_pattern e.start.role)) (omega arith) (wait_done st pattern p s)
       (ap (λ (answers : List Answer). not (wakes answers)) (answers_left e.answers st.used Nothing is))
-  synced_right n text turns body st pattern (Some (Found event)) is all p s effects =
-      takes_right n text turns body st pattern event event.path is refl all p s effects
+  waited_right n st pattern go (Some (Found event)) is all p s h =
+      woken_right n st pattern go event event.path is refl all p s (λ path. h path event)
 
   rested_right : (n : ℕ) (st : State) (seconds : Fraction) (past : Bool) → is_past e.start.until (time_after seconds st) ≡ past → IsOk (exact_sum st.time seconds) →
       (e.L → IsRestWithin seconds) → (e.L → IsStateWithin st) → st.effects + e.start.place.step ≤ st.step →
@@ -270,23 +269,18 @@ module _ (e : Subject) where
     until = until;
   }
 
-  spawned_right : (n text turns : ℕ) (body : BlockRef → Option Body) (role : Role) (block : BlockMeaning) (st : State) → length e.start.place.thread < 32 → (e.L → IsRoleWithin role) →
-      (e.L → IsTrue (is_some (block_of e.texts (record { text = text; block = block.number })))) → (e.L → IsStateWithin st) → st.effects + e.start.place.step ≤ st.step →
-      IsRun e n (moment_in e.start e.answers st) (spawns role block (env_of e.start text e.answers turns body) st).steps (spawns role block (env_of e.start text e.answers turns body) st).left
-  spawned_right n text turns body role block st nested r there s effects =
-      run_begins e n (moment_in e.start e.answers st) (moment_in e.start e.answers (has_spawned st)) (spawn_cost st.locals) (Spawn (place_in e.start st) (child_of role block (env_of e.start text e.answers turns body) st))
-      (gives Nil (has_spawned st)) (omega arith)
+  spawned_right : (n text turns : ℕ) (body : BlockRef → Option Body) (role : Role) (handed : ℕ) (block : BlockMeaning) (st : State) (go : State → Ran) → length e.start.place.thread < 32 → (e.L → IsRoleWithin role) →
+      (e.L → IsTrue (is_some (block_of e.texts (record { text = text; block = block.number })))) → (e.L → IsStateWithin st) →
+      IsRun e n (moment_in e.start e.answers (has_spawned st)) (go (has_spawned st)).steps (go (has_spawned st)).left →
+      IsRun e (suc n) (moment_in e.start e.answers st) (spawns role handed block (env_of e.start text e.answers turns body) st go).steps (spawns role handed block (env_of e.start text e.answers turns body) st go).left
+  spawned_right n text turns body role handed block st go nested r there s h =
+      run_begins e (suc n) (moment_in e.start e.answers st) (moment_in e.start e.answers (has_spawned st)) (spawn_cost st.locals handed) (Spawn (place_in e.start st) (child_of role block (env_of e.start text e.answers turns body) st))
+      (go (has_spawned st)) (omega arith)
       (record {
         placed = refl;
         right = (child_right text turns body role block st nested, there, λ l. ((s l).fraction, child_within text turns body role block st (e.within l).until (r l) (s l)));
       })
-      refl refl
-      (record {
-        moment = refl;
-        value = λ l. within_nil;
-        state = λ l. record { fraction = (s l).fraction; pairs = (s l).pairs; set = (s l).set; counters = (s l).counters };
-        effects = omega (arith, effects);
-      })
+      refl refl (fewer_right n (has_spawned st) (go (has_spawned st)) h)
 
   -- the relation is kept by all parts of a run
   pub right : (e.L → AllByRecursion IsAnswerWithin e.answers) → Closure (Right e) e
@@ -301,7 +295,7 @@ module _ (e : Subject) where
     ended = ended_right;
     followed = λ {n} {st} a b k k' h next. followed_right n st a b k k' h next;
     asked = λ n text turns turns' body body' pattern st go go' p s h effects. asked_right n st pattern go go' (slice_get e.answers st.used) refl all p s h effects;
-    synced = λ n text turns turns' body body' pattern st p s effects. synced_right n text turns body st pattern (slice_get e.answers st.used) refl all p s effects;
+    waited = λ n text turns turns' body body' pattern st go go' p s h effects. waited_right n st pattern go (slice_get e.answers st.used) refl all p s (λ path event q v. h path event q v (omega (arith, effects)));
     rested = λ n text turns turns' body body' seconds st ok r s effects. rested_right n st seconds (is_past e.start.until (time_after seconds st)) refl ok r s effects;
-    spawned = λ n text turns turns' body body' role block st nested r there s effects. spawned_right n text turns body role block st nested r there s effects;
+    spawned = λ n text turns turns' body body' role handed block st go go' nested r there s h effects. spawned_right n text turns body role handed block st go nested r there s (h (omega (arith, effects)));
   }

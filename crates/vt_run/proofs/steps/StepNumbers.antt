@@ -1,21 +1,16 @@
 -- The actions of a thread are numbered one after another.
-use Rattle.std.proofs.Common.{◌≡◌, ℕ, zero, suc, ◌+◌, List, [], ◌∷◌, ◌++◌, length, Bool, true, false, cond, Option, Some, None, refl, sym, ap, ◌∙◌, arith, length-append}
+use Rattle.std.proofs.Common.{◌≡◌, ℕ, zero, suc, ◌+◌, List, [], ◌∷◌, ◌++◌, length, Option, Some, None, refl, sym, ap, ◌∙◌, arith, length-append}
 use Rattle.std.specs.Prelude.{slice_get}
 use Rattle.std.proofs.Math.Nat.{add-zero}
-use Rattle.vt_frac.specs.Fraction.{Fraction}
-use Rattle.vt_ring.specs.Exact.{is_positive}
 use Rattle.vt_event.specs.declared.place.Place.{Place}
 use Rattle.vt_run.specs.declared.action.Action.{Action}
-use Rattle.vt_run.specs.declared.action.Action.TheVariants.{Emit, Rest, Read, Wait, Spawn, End}
-use Rattle.vt_run.specs.declared.action.Answer.{Answer}
-use Rattle.vt_run.specs.declared.action.Answer.TheVariants.{Nothing, Found}
 use Rattle.vt_run.specs.Pieces.{actions_of, listed}
 use Rattle.vt_run.specs.laws.StepLaws.{NumbersLaw}
 use Rattle.vt_run.specs.Evaluation.{Step}
 use Rattle.vt_run.specs.Threads.{acts}
 use Rattle.vt_run.proofs.steps.Moments.{Moment, first_moment, moment_after, moment_after_all}
+use Rattle.vt_run.proofs.steps.NextPlaces.{number_after}
 use Rattle.vt_run.proofs.steps.ThreadSteps.{placed_law}
-use Rattle.vt_run.specs.Standing.{place_woken}
 
 -- an action by its number among the actions of these steps: the step that makes it, and those before
 record IsAction (steps : List Step) (j : ℕ) (action : Action) : Type 0 where
@@ -51,23 +46,9 @@ action_at (step ∷ steps) j action h = go step.action refl j h (λ k h. action_
         let sum : length (listed step.action) + j ≡ suc j = ap (λ (made : Option Action). length (listed made) + j) is ∙ omega arith in
         later_action step steps j (suc j) action (later j h) sum
 
-rested_step : (positive : Bool) (time : Fraction) (place : Place) → (cond positive (record place { time = time; micro = 0 }) place).step ≡ place.step
-rested_step true time place = refl
-rested_step false time place = refl
-
-woken_step : (answers : List Answer) (place : Place) → (place_woken answers place).step ≡ place.step
-woken_step [] place = refl
-woken_step (Nothing ∷ answers) place = refl
-woken_step (Found event ∷ answers) place = refl
-
 one_numbered : (action : Option Action) (now : Moment) → (moment_after action now).stand.place.step ≡ now.stand.place.step + length (listed action)
 one_numbered None now = sym (add-zero now.stand.place.step)
-one_numbered (Some (Emit event)) now = refl
-one_numbered (Some (Rest place seconds)) now = ap (λ (n : ℕ). n + 1) (rested_step (is_positive seconds) _ now.stand.place)
-one_numbered (Some (Read place pattern)) now = refl
-one_numbered (Some (Wait place pattern)) now = ap (λ (n : ℕ). n + 1) (woken_step now.stand.answers now.stand.place)
-one_numbered (Some (Spawn place start)) now = refl
-one_numbered (Some (End place reason)) now = refl
+one_numbered (Some action) now = number_after action now.stand
 
 -- each action makes the number of the next one greater by 1
 all_numbered : (steps : List Step) (now : Moment) → (moment_after_all steps now).stand.place.step ≡ now.stand.place.step + length (actions_of steps)

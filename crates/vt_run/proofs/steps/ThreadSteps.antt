@@ -9,6 +9,7 @@ use Rattle.vt_run.specs.declared.action.Action.TheVariants.{Emit, Rest, Read, Wa
 use Rattle.vt_run.specs.declared.action.Answer.{Answer}
 use Rattle.vt_run.specs.declared.start.Start.{Start}
 use Rattle.vt_run.specs.declared.texts.Texts.{Texts}
+use Rattle.vt_run.specs.laws.StandingLaws.{StopsLaw}
 use Rattle.vt_run.specs.laws.StepFacts.{IsChild, IsThreadWithin}
 use Rattle.vt_run.specs.laws.StepLaws.{AreWhole, BlocksLaw, ChildrenLaw, ClosingLaw, CostsLaw, EventsLaw, IsStep, LastLaw, LimitsLaw, PlacesLaw}
 use Rattle.vt_run.specs.Evaluation.{Left, Step}
@@ -110,6 +111,9 @@ pub places_law : PlacesLaw
 places_law texts start answers prefix step action is some =
     placed_law texts start answers prefix step action is some ∙ ap (λ (m : Moment). m.stand.place) (moment_is start answers prefix)
 
+pub stops_law : StopsLaw
+stops_law texts start answers prefix step place pattern stop is some = (action_done texts start answers prefix step (Wait place pattern stop) is some).right.0
+
 pub children_law : ChildrenLaw
 children_law texts start answers prefix step place child is some =
     subst (λ (m : Moment). IsChild start place m.children child) (moment_is start answers prefix) (action_done texts start answers prefix step (Spawn place child) is some).right.0
@@ -124,7 +128,7 @@ pub limits_law : LimitsLaw
 limits_law texts start answers prefix step (Emit event) given is some small = ((action_done texts start answers prefix step (Emit event) is some).right small).1 given
 limits_law texts start answers prefix step (Rest place seconds) given is some small = (action_done texts start answers prefix step (Rest place seconds) is some).right given
 limits_law texts start answers prefix step (Read place pattern) given is some small = (action_done texts start answers prefix step (Read place pattern) is some).right given
-limits_law texts start answers prefix step (Wait place pattern) given is some small = (action_done texts start answers prefix step (Wait place pattern) is some).right given
+limits_law texts start answers prefix step (Wait place pattern stop) given is some small = (action_done texts start answers prefix step (Wait place pattern stop) is some).right.1 given
 limits_law texts start answers prefix step (Spawn place child) given is some small = (action_done texts start answers prefix step (Spawn place child) is some).right.2 given
 limits_law texts start answers prefix step (End place reason) given is some small = (action_done texts start answers prefix step (End place reason) is some).right given
 

@@ -1,5 +1,5 @@
 -- The calls that sound: `play`, `synth` and `sample`. After the Sonic Pi tutorial, chapters 2 and 3; kinds and faults are own.
-use Rattle.std.specs.Prelude.{ℕ, List, [], ◌∷◌, ◌++◌, map, filter, Bool, false, ◌||◌, not, cond, codes, bytes_eq, is_some, Option, Some, None, unwrap_or, Result, Ok, Err}
+use Rattle.std.specs.Prelude.{ℕ, List, [], ◌∷◌, ◌++◌, map, filter, Bool, false, ◌||◌, not, cond, codes, bytes_eq, is_some, Option, Some, None, Result, Ok, Err}
 use Rattle.std.specs.List.{filter_map, list_any}
 use Rattle.vt_ring.specs.Answers.{and_then, all_of}
 use Rattle.vt_ring.specs.Signatures.{note_argument, one_of}
@@ -7,14 +7,14 @@ use Rattle.vt_value.specs.declared.fault.FaultKind.{FaultKind}
 use Rattle.vt_value.specs.declared.fault.FaultKind.TheVariants.{WrongKind}
 use Rattle.vt_value.specs.declared.value.Value.{Value}
 use Rattle.vt_value.specs.declared.value.Value.TheVariants.{Nil}
-use Rattle.vt_value.specs.Kinds.{is_nil, ring_of, symbol_of, text_bytes}
+use Rattle.vt_value.specs.Kinds.{is_nil, symbol_of, text_bytes}
 use Rattle.vt_event.specs.declared.place.Place.{Place}
 use Rattle.vt_event.specs.Event.{EventView}
 use Rattle.vt_event.specs.EventsByKind.{play_event, sample_event, synth_event}
 use Rattle.vt_event.specs.Pairs.{Pairs}
 use Rattle.vt_run.specs.declared.settings.Settings.{Settings}
 use Rattle.vt_run.specs.declared.state.State.{State}
-use Rattle.vt_run.specs.calls.Arguments.{Given, a_symbol, all_args}
+use Rattle.vt_run.specs.calls.Arguments.{Given, a_symbol, all_args, each_of}
 use Rattle.vt_run.specs.calls.Deeds.{Deed, publishing}
 
 abbrev pub is_rest_name : Option (List ℕ) → Bool
@@ -32,13 +32,13 @@ note_to_play value =
     (Ok (Ok None))
     (and_then (note_argument value) (λ note. Ok (and_then note (λ n. Ok (Some n)))))
 
--- the items of a ring, and else the value alone
-abbrev pub each_of : Value → List Value
-each_of value = unwrap_or (ring_of value) (value ∷ [])
+-- the notes that a value is to play, by their kinds: those of each item of a ring, or its own; an item that is itself a ring is no note
+abbrev pub notes_asked : Value → Result (List (Result (Option Value) FaultKind)) FaultKind
+notes_asked value = all_of (map note_to_play (each_of value))
 
--- The notes that a value plays: those of each item of a ring, or its own. The kinds of all items are looked at before the name of a note. An item that is itself a ring is no note.
+-- The notes that a value plays. The kinds of all items are looked at before the name of a note.
 abbrev pub notes_to_play : Value → Result (List (Option Value)) FaultKind
-notes_to_play value = and_then (all_of (map note_to_play (each_of value))) all_of
+notes_to_play value = and_then (notes_asked value) all_of
 
 abbrev pub has_name : Pairs → List ℕ → Bool
 has_name options name = list_any (λ (option : List ℕ × Value). bytes_eq option.0 name) options
@@ -51,12 +51,16 @@ with_defaults options defaults = options ++ filter (λ (option : List ℕ × Val
 abbrev pub plays_note : Pairs → Settings → Value → Place → EventView
 plays_note options settings note place = play_event place settings.synth note (with_defaults options settings.defaults) settings.fx
 
--- `play V`, with any options: an event for each note, in order
+-- an event for each note, in order; silence is none
+abbrev pub plays_notes : Pairs → Settings → List (Option Value) → List (Place → EventView)
+plays_notes options settings notes = map (plays_note options settings) (filter_map (λ note. note) notes)
+
+-- `play V`, with any options
 unfoldable pub play_call : Given → State → Result Deed FaultKind
 play_call given st =
     and_then (one_of (all_args given)) (λ value.
     and_then (notes_to_play value) (λ notes.
-    Ok (record { events = map (plays_note given.options st.settings) (filter_map (λ note. note) notes); value = Nil; state = st })))
+    Ok (record { events = plays_notes given.options st.settings notes; value = Nil; state = st })))
 
 -- `synth :x`, with any options
 unfoldable pub synth_call : Given → State → Result Deed FaultKind

@@ -12,7 +12,7 @@ use Rattle.vt_value.specs.declared.value.Value.{Value}
 use Rattle.vt_value.specs.declared.value.Value.TheVariants.{Whole}
 use Rattle.vt_value.specs.Arithmetic.{fitting}
 use Rattle.vt_run.specs.declared.state.State.{State}
-use Rattle.vt_run.specs.calls.Arguments.{Given, all_args}
+use Rattle.vt_run.specs.calls.Arguments.{Given, all_args, has_item, ring_if_given}
 use Rattle.vt_run.specs.calls.Deeds.{Deed, changed_to, valued}
 
 -- counters, each its name and its number
@@ -36,15 +36,6 @@ abbrev pub counter_name : Option Value → Result (List ℕ) FaultKind
 counter_name None = Ok (codes "default")
 counter_name (Some value) = symbol_argument value
 
--- the ring before the dot, if there is a dot
-abbrev pub ring_before : Option Value → Result (Option (List Value)) FaultKind
-ring_before None = Ok None
-ring_before (Some value) = and_then (ring_argument value) (λ items. Ok (Some items))
-
-abbrev pub has_item : Option (List Value) → Bool
-has_item None = true
-has_item (Some items) = nat_lt 0 (length items)
-
 -- the number, or the ring's item at it
 abbrev pub counted : Option (List Value) → ℤ → Result Value FaultKind
 counted None number = Ok (Whole number)
@@ -54,7 +45,7 @@ counted (Some items) number = item_at items number
 abbrev pub ring_and_counter : Given → Result (Option (List Value) × List ℕ) FaultKind
 ring_and_counter given =
     and_then (one_or_none_of given.args) (λ named.
-    and_then (ring_before given.receiver) (λ ring.
+    and_then (ring_if_given given.receiver) (λ ring.
     and_then (counter_name named) (λ name.
     demand (has_item ring) EmptyRing (Ok (ring, name)))))
 

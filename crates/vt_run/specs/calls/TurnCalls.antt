@@ -1,17 +1,22 @@
--- The calls that run a block in turns: `loop`, `times`, `each` and `map`. After the Sonic Pi tutorial, chapter 5, and Ruby; that a turn of a loop must rest or wait is after Sonic Pi, its fault and the costs are own.
-use Rattle.std.specs.Prelude.{ℕ, zero, suc, ℤ, pos, negsuc, List, [], ◌∷◌, map, false, cond, Option}
+-- The calls that run a block in turns: `loop`, `times`, `each`, `map` and `density`. After the Sonic Pi tutorial, chapter 5, and Ruby; that a turn of a loop must rest or wait is after Sonic Pi, its fault and the costs are own.
+use Rattle.std.specs.Prelude.{ℕ, zero, suc, ℤ, pos, negsuc, List, [], ◌∷◌, map, false, cond, Option, Result, Ok}
+use Rattle.vt_frac.specs.Fraction.{Fraction, whole}
+use Rattle.vt_ring.specs.Answers.{and_then}
+use Rattle.vt_ring.specs.Arguments.{between}
+use Rattle.vt_ring.specs.Exact.{exact_product}
 use Rattle.vt_ring.specs.Items.{indices}
 use Rattle.vt_ring.specs.Signatures.{a_ring, a_whole}
+use Rattle.vt_value.specs.declared.fault.FaultKind.{FaultKind}
 use Rattle.vt_value.specs.declared.fault.FaultKind.TheVariants.{NoSleep}
 use Rattle.vt_value.specs.declared.value.Value.{Value}
-use Rattle.vt_value.specs.declared.value.Value.TheVariants.{Ring, Whole}
+use Rattle.vt_value.specs.declared.value.Value.TheVariants.{Nil, Ring, Whole}
 use Rattle.vt_value.specs.Arithmetic.{ring_within}
 use Rattle.vt_run.specs.declared.state.State.{State}
 use Rattle.vt_run.specs.Actions.{fails, or_fails}
 use Rattle.vt_run.specs.calls.Arguments.{Given, all_args}
 use Rattle.vt_run.specs.Environment.{Env, Meaning}
 use Rattle.vt_run.specs.Scopes.{BlockMeaning, runs}
-use Rattle.vt_run.specs.calls.SettingCalls.{with_block}
+use Rattle.vt_run.specs.calls.SettingCalls.{set_back, with_block, with_bpm}
 use Rattle.vt_run.specs.Evaluation.{Ran, Spot, gives, halts, after, tick}
 
 -- as a turn begins
@@ -63,3 +68,18 @@ map_call given block env at st =
     with_block block env at st (λ block.
     or_fails (a_ring (all_args given)) env at st (λ items.
     turns_over items block env at st (λ values st. or_fails (ring_within values) env at st (λ ring. gives ring st))))
+
+-- a density from 1 to 64, and the tempo that is so many times this one
+abbrev pub density_of : Given → Fraction → Result (ℕ × Fraction) FaultKind
+density_of given bpm =
+    and_then (a_whole (all_args given)) (λ number.
+    and_then (between 1 64 number) (λ n.
+    and_then (exact_product bpm (whole (pos n))) (λ faster.
+    Ok (n, faster))))
+
+-- `density n do |i|`: the block n times at n times the tempo, with 0 to n - 1 as its parameter; then the tempo is set back
+unfoldable pub density_call : Given → Option BlockMeaning → Meaning
+density_call given block env at st =
+    with_block block env at st (λ block.
+    or_fails (density_of given st.settings.bpm) env at st (λ (n, faster).
+    set_back (with_bpm st.settings.bpm) (turns_over (numbers_below (pos n)) block env at (with_bpm faster st) (λ values st. gives Nil st))))

@@ -64,7 +64,7 @@ IsFoundSo P (Found event ∷ answers) = P event
 abbrev pub EachWait : (Place → EventView → Type 0) → List Action → List Answer → Type 0
 EachWait P [] answers = Unit {0}
 EachWait P (Read place pattern ∷ actions) answers = EachWait P actions (left_of answers)
-EachWait P (Wait place pattern ∷ actions) answers = IsFoundSo (P place) answers × EachWait P actions (left_of answers)
+EachWait P (Wait place pattern stop ∷ actions) answers = IsFoundSo (P place) answers × EachWait P actions (left_of answers)
 EachWait P (_ ∷ actions) answers = EachWait P actions answers
 
 -- each wait is answered by an event that stands above it

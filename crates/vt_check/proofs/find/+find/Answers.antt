@@ -119,7 +119,7 @@ find_expr-returns-in-Name t c =
 
 pub find_expr-returns-in-Call : goal.find_expr-returns-in-Call
 find_expr-returns-in-Call t c =
-    finds_by (site children c.in-Call.call) (λ p. in_expr-out c.args.expr.now p ∙ in_node-is _ (Node-F.Call c.in-Call.call) p (c.in-Call.is ∙ sym (nodes.rolls-Call _))) (finds_called (λ p. record { place = p; call = c.in-Call.call }) c.find_call.ensures)
+    finds_by (site children c.in-Call.call) (λ p. in_expr-out c.args.expr.now p ∙ in_node-is _ (Node-F.Call c.in-Call.call) p (c.in-Call.is ∙ sym (nodes.rolls-Call _))) (finds_called (λ p. record { context = p; call = c.in-Call.call }) c.find_call.ensures)
 
 pub find_expr-returns-in-List : goal.find_expr-returns-in-List
 find_expr-returns-in-List t c =
@@ -139,7 +139,7 @@ find_expr-returns-in-Some-find_expr t c =
 
 pub find_expr-returns-in-None-find_expr : goal.find_expr-returns-in-None-find_expr
 find_expr-returns-in-None-find_expr t c =
-    finds_by (λ p. in_expr c.in-Dot.of (inside p) ++ site children c.in-Dot.call (after_dot p)) (λ p. in_expr-out c.args.expr.now p ∙ in_node-is _ (Node-F.Dot c.in-Dot.of c.in-Dot.call) p (c.in-Dot.is ∙ sym (nodes.rolls-Dot _ _))) (finds_then (finds_at inside (finds_of in_expr c.get-in-Dot.ensures c.in-None-find_expr.ensures)) (finds_called (λ p. record { place = after_dot p; call = c.in-Dot.call }) (finds_at after_dot c.find_call-in-None-find_expr.ensures)))
+    finds_by (λ p. in_expr c.in-Dot.of (inside p) ++ site children c.in-Dot.call (after_dot p)) (λ p. in_expr-out c.args.expr.now p ∙ in_node-is _ (Node-F.Dot c.in-Dot.of c.in-Dot.call) p (c.in-Dot.is ∙ sym (nodes.rolls-Dot _ _))) (finds_then (finds_at inside (finds_of in_expr c.get-in-Dot.ensures c.in-None-find_expr.ensures)) (finds_called (λ p. record { context = after_dot p; call = c.in-Dot.call }) (finds_at after_dot c.find_call-in-None-find_expr.ensures)))
 
 pub find_expr-returns-in-Unary : goal.find_expr-returns-in-Unary
 find_expr-returns-in-Unary t c =

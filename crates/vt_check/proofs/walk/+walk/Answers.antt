@@ -3,7 +3,7 @@ use Rattle.vt_tree.specs.declared.expression.Node.TheOpen.{Node-F, Simple-F, Stm
 use Rattle.vt_tree.specs.declared.expression.Node.TheVariants as nodes
 use Rattle.vt_tree.specs.declared.statement.Simple.TheVariants as simples
 use Rattle.vt_tree.specs.declared.statement.StmtForm.TheVariants as forms
-use Rattle.vt_tree.specs.Parts.{Place, each, children, in_arm, in_block, in_call, in_expr, in_link, in_form, in_stmt, if_there, site, whole_block, inside}
+use Rattle.vt_tree.specs.Parts.{Context, each, children, in_arm, in_block, in_call, in_expr, in_link, in_form, in_stmt, if_there, site, whole_block, inside}
 use Rattle.vt_tree.proofs.PartsLemmas.{in_node-is, in_simple-is, in_form-is, in_call-out, in_expr-out, in_link-out, in_arm-out, in_block-out, in_stmt-out}
 use Rattle.vt_check.specs.declared.fault.CheckFault.TheVariants.{At}
 use Rattle.vt_check.specs.private.Judging.{Judges, site_of}
@@ -172,11 +172,11 @@ check_simple-returns-in_err-check_arms-in-Iff t c =
 
 pub check_simple-returns-in-None : goal.check_simple-returns-in-None
 check_simple-returns-in-None t c =
-    judges_at (in_simple-is _ (Simple-F.Iff c.in-Iff.arms c.in-Iff.other) _ (c.in-Iff.is ∙ sym (simples.rolls-Iff _ _))) (judges_then _ _ _ _ (moved (each in_arm) c.as_slice.ensures c.inside.ensures c.in_ok-check_arms-in-Iff.ensures) (judges_at (ap (λ o. if_there (each in_stmt) o (inside c.args.place)) c.in-None.is) judges_none))
+    judges_at (in_simple-is _ (Simple-F.Iff c.in-Iff.arms c.in-Iff.other) _ (c.in-Iff.is ∙ sym (simples.rolls-Iff _ _))) (judges_then _ _ _ _ (moved (each in_arm) c.as_slice.ensures c.inside.ensures c.in_ok-check_arms-in-Iff.ensures) (judges_at (ap (λ o. if_there (each in_stmt) o (inside c.args.context)) c.in-None.is) judges_none))
 
 pub check_simple-returns-in-Some : goal.check_simple-returns-in-Some
 check_simple-returns-in-Some t c =
-    judges_at (in_simple-is _ (Simple-F.Iff c.in-Iff.arms c.in-Iff.other) _ (c.in-Iff.is ∙ sym (simples.rolls-Iff _ _))) (judges_then _ _ _ _ (moved (each in_arm) c.as_slice.ensures c.inside.ensures c.in_ok-check_arms-in-Iff.ensures) (judges_at (ap (λ o. if_there (each in_stmt) o (inside c.args.place)) c.in-Some.is) (moved (each in_stmt) c.as_slice-in-Some.ensures c.inside-in-Some.ensures c.check_stmts.ensures)))
+    judges_at (in_simple-is _ (Simple-F.Iff c.in-Iff.arms c.in-Iff.other) _ (c.in-Iff.is ∙ sym (simples.rolls-Iff _ _))) (judges_then _ _ _ _ (moved (each in_arm) c.as_slice.ensures c.inside.ensures c.in_ok-check_arms-in-Iff.ensures) (judges_at (ap (λ o. if_there (each in_stmt) o (inside c.args.context)) c.in-Some.is) (moved (each in_stmt) c.as_slice-in-Some.ensures c.inside-in-Some.ensures c.check_stmts.ensures)))
 
 pub check_simple-returns-in-Assign : goal.check_simple-returns-in-Assign
 check_simple-returns-in-Assign t c =
@@ -192,12 +192,12 @@ check_call-returns-in_err-found t c =
 
 pub check_call-returns-in-Some : goal.check_call-returns-in-Some
 check_call-returns-in-Some t c =
-    subst (λ (p : Place). Judges {U = Unit {0}} (site children c.args.call.now c.args.place) (Err (At p.line c.in-Some.kind))) (sym c.place.view_is)
-    (judges_fault (site_of c.args.place c.args.call.now) (in_call c.args.call.now c.args.place) c.in-Some.kind (of_some _ _ _ c.in-Some.is c.in_ok-found.ensures))
+    subst (λ (p : Context). Judges {U = Unit {0}} (site children c.args.call.now c.args.context) (Err (At p.line c.in-Some.kind))) (sym c.context.view_is)
+    (judges_fault (site_of c.args.context c.args.call.now) (in_call c.args.call.now c.args.context) c.in-Some.kind (of_some _ _ _ c.in-Some.is c.in_ok-found.ensures))
 
 pub check_call-returns-in-None : goal.check_call-returns-in-None
 check_call-returns-in-None t c =
-    judges_sound (site_of c.args.place c.args.call.now) (in_call c.args.call.now c.args.place) c.check_inside.result (of_none _ _ c.in-None.is c.in_ok-found.ensures) c.check_inside.ensures
+    judges_sound (site_of c.args.context c.args.call.now) (in_call c.args.call.now c.args.context) c.check_inside.result (of_none _ _ c.in-None.is c.in_ok-found.ensures) c.check_inside.ensures
 
 pub check_inside-returns-in_err-check_exprs : goal.check_inside-returns-in_err-check_exprs
 check_inside-returns-in_err-check_exprs t c =
@@ -209,8 +209,8 @@ check_inside-returns-in_err-check_options t c =
 
 pub check_inside-returns-in-None : goal.check_inside-returns-in-None
 check_inside-returns-in-None t c =
-    judges_at (in_call-out c.args.call.now _) (judges_then _ _ _ _ (moved (each in_expr) c.as_slice.ensures c.inside.ensures c.in_ok-check_exprs.ensures) (judges_then _ _ _ _ (moved (each (λ option. in_expr option.1)) c.as_slice-2.ensures c.inside-2.ensures c.in_ok-check_options.ensures) (judges_at (ap (λ o. if_there (whole_block children) o (inside c.args.place)) c.in-None.is) judges_none)))
+    judges_at (in_call-out c.args.call.now _) (judges_then _ _ _ _ (moved (each in_expr) c.as_slice.ensures c.inside.ensures c.in_ok-check_exprs.ensures) (judges_then _ _ _ _ (moved (each (λ option. in_expr option.1)) c.as_slice-2.ensures c.inside-2.ensures c.in_ok-check_options.ensures) (judges_at (ap (λ o. if_there (whole_block children) o (inside c.args.context)) c.in-None.is) judges_none)))
 
 pub check_inside-returns-in-Some : goal.check_inside-returns-in-Some
 check_inside-returns-in-Some t c =
-    judges_at (in_call-out c.args.call.now _) (judges_then _ _ _ _ (moved (each in_expr) c.as_slice.ensures c.inside.ensures c.in_ok-check_exprs.ensures) (judges_then _ _ _ _ (moved (each (λ option. in_expr option.1)) c.as_slice-2.ensures c.inside-2.ensures c.in_ok-check_options.ensures) (judges_at (ap (λ o. if_there (whole_block children) o (inside c.args.place)) c.in-Some.is) (opened_then _ _ _ (moved in_block c.get.ensures c.inside-in-Some.ensures c.check_block.ensures)))))
+    judges_at (in_call-out c.args.call.now _) (judges_then _ _ _ _ (moved (each in_expr) c.as_slice.ensures c.inside.ensures c.in_ok-check_exprs.ensures) (judges_then _ _ _ _ (moved (each (λ option. in_expr option.1)) c.as_slice-2.ensures c.inside-2.ensures c.in_ok-check_options.ensures) (judges_at (ap (λ o. if_there (whole_block children) o (inside c.args.context)) c.in-Some.is) (opened_then _ _ _ (moved in_block c.get.ensures c.inside-in-Some.ensures c.check_block.ensures)))))

@@ -1,7 +1,7 @@
 use Rattle.std.proofs.Common.{◌≡◌, length, ℕ, ◌+◌, ◌<◌, Bool, true, false, nat_eq, List, Bor, Some, cond, get_or, drop, sym, ap, ◌∙◌}
 use Rattle.std.specs.List.{starts_with}
 use Rattle.std.proofs.lemmas.List.{at_drop_more}
-use Rattle.vt_lex.specs.Words.{first_start}
+use Rattle.vt_lex.specs.Lexicon.{first_start}
 use Rattle.vt_lex.specs.private.Spelled.{spelled}
 use Rattle.vt_lex.proofs.words.first_start.Goals as goal
 

@@ -1,5 +1,5 @@
 use Rattle.std.proofs.Common.{◌≡◌, drop}
-use Rattle.vt_lex.specs.Words.{first_start}
+use Rattle.vt_lex.specs.Lexicon.{first_start}
 use Rattle.vt_lex.specs.private.Spelled.{spelled}
 use Rattle.vt_lex.proofs.words.first_start.Given as goal
 

@@ -1,6 +1,6 @@
 use Rattle.std.proofs.Common.{ap, ◌∙◌}
 use Rattle.vt_lex.specs.declared.words.TheConstants.{JOINING_OPERATORS, PLAIN_OPERATORS}
-use Rattle.vt_lex.specs.Words.{first_start}
+use Rattle.vt_lex.specs.Lexicon.{first_start}
 use Rattle.vt_lex.proofs.Lists.{found_first, found_later}
 use Rattle.vt_lex.proofs.Tables.{texts_of, operators_are}
 use Rattle.vt_lex.proofs.words.operator_len.Goals as goal

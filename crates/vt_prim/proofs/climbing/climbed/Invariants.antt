@@ -1,5 +1,5 @@
 use Rattle.std.proofs.Common.{◌≡◌, length}
-use Rattle.vt_prim.specs.private.Climbing.{climbed}
+use Rattle.vt_ring.specs.NoteCalls.{climbed}
 use Rattle.vt_prim.specs.private.Adding.{value_of}
 use Rattle.vt_prim.proofs.climbing.climbed.Given as goal
 

@@ -1,6 +1,5 @@
 use Rattle.std.proofs.Common.{◌≡◌}
-use Rattle.vt_ring.specs.NoteCalls.{times}
-use Rattle.vt_prim.specs.private.Climbing.{climbed}
+use Rattle.vt_ring.specs.NoteCalls.{climbed, times}
 use Rattle.vt_prim.specs.private.Adding.{value_of}
 use Rattle.vt_prim.proofs.climbing.climbed_times.Given as goal
 

@@ -1,6 +1,6 @@
 use Rattle.std.proofs.Common.{◌≡◌, [], arith}
 use Rattle.std.proofs.lemmas.List.{nil_from_length}
-use Rattle.vt_path.proofs.PathSteps.{ends_none, ends_some}
+use Rattle.vt_path.proofs.PathReadsOn.{ends_none, ends_some}
 use Rattle.vt_path.proofs.KeptLemmas.{kept_path}
 use Rattle.vt_path.proofs.path_reader.PathReader.path.Goals as goal
 

@@ -1,13 +1,13 @@
 use Rattle.std.proofs.Common.{◌≡◌, [], arith}
 use Rattle.std.proofs.lemmas.List.{nil_from_length}
 use Rattle.vt_path.specs.private.PatternReading.{reading}
-use Rattle.vt_path.proofs.PatternInside.{set_end_steps, no_set_end}
+use Rattle.vt_path.proofs.PatternInside.{set_end_reads_on, no_set_end}
 use Rattle.vt_path.proofs.pattern_reader.PatternReader.closes_set.Goals as goal
 
 pub returns-then-is_empty : goal.returns-then-is_empty
-returns-then-is_empty c = let e : c.args.self.now.bytes.items ≡ [] = nil_from_length _ (grind arith) in no_set_end (reading c.args.self.now) c.requires.place e
+returns-then-is_empty c = let e : c.args.self.now.bytes.items ≡ [] = nil_from_length _ (grind arith) in no_set_end (reading c.args.self.now) c.requires.position e
 
 pub returns : goal.returns
 returns c =
     rw (c.in_ok-push.ensures.items, c.clear.ensures.items, c.in_ok-bytes.ensures, c.as_slice.ensures.value)
-    (set_end_steps (reading c.args.self.now) c.requires.place c.requires.sound (grind arith))
+    (set_end_reads_on (reading c.args.self.now) c.requires.position c.requires.sound (grind arith))

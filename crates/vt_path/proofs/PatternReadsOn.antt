@@ -1,3 +1,4 @@
+-- Between two parts, a pattern that is being read goes on with a byte, or no pattern does.
 use Rattle.std.proofs.Common.{◌≡◌, ℕ, ◌+◌, ◌<◌, ◌≤◌, List, [], ◌∷◌, ◌++◌, length, refl, sym, ◌∙◌, ap, subst, arith, append_assoc, length-append}
 use Rattle.std.specs.List.{All, flat_map}
 use Rattle.std.proofs.lemmas.Grind.{flat_map-append}
@@ -5,27 +6,27 @@ use Rattle.std.proofs.lemmas.List.{append-nil}
 use Rattle.std.proofs.lemmas.List.Elements.{All-head, All-nil, All-push}
 use Rattle.vt_path.specs.Byte.{IsPathByte}
 use Rattle.vt_path.specs.Pattern.{IsPattern, IsPatternSegment, IsPart, IsWord, part_text, parts_text, segment_text, pattern_text, names_text}
-use Rattle.vt_path.specs.private.PatternReading.{Reading, Leads, LeadsFrom, IsInside, IsBetween, IsSound, Steps, NoStep, FromParts, IsSegmentOf, IsOpening, parts_of, names_size}
+use Rattle.vt_path.specs.private.PatternReading.{Reading, GoesOnTo, GoesOnFrom, IsInside, IsBetween, IsSound, ReadsOn, ReadsNoFurther, FromParts, IsSegmentOf, IsOpening, parts_of, names_size}
 use Rattle.vt_path.specs.declared.pattern.Segment.{Segment}
 use Rattle.vt_path.specs.declared.pattern.Part.{Part}
 use Rattle.vt_path.specs.declared.pattern.Part.TheVariants.{Byte, AnyBytes, AnyByte, Set, Alternatives}
-use Rattle.vt_path.specs.declared.pattern_reader.Place.{Place}
-use Rattle.vt_path.specs.declared.pattern_reader.Place.TheVariants.{Between, InSet, InAlternatives}
+use Rattle.vt_path.specs.declared.pattern_reader.Position.{Position}
+use Rattle.vt_path.specs.declared.pattern_reader.Position.TheVariants.{Between, InSet, InAlternatives}
 use Rattle.vt_path.proofs.ByteLemmas.{no_slash, no_star, no_mark, no_bracket, no_brace}
 use Rattle.vt_path.proofs.PatternNext.{Next, next_of, segment_text-parts, same_segment, good_segment, segment_good, more_good, parts_short, parts_some, with_part, without_part, same_rest, same_begun}
 
--- what leads on where the place is known
-pub leads_in : (r : Reading) (place : Place) (rest : List ℕ) (q : List Segment) → r.place ≡ place → Leads r rest q → LeadsFrom place r rest q
-leads_in r place rest q e h = let P : Place → Type 0 = λ x. LeadsFrom x r rest q in subst P e h
+-- what goes on from a position that is known
+pub goes_on_in : (r : Reading) (position : Position) (rest : List ℕ) (q : List Segment) → r.position ≡ position → GoesOnTo r rest q → GoesOnFrom position r rest q
+goes_on_in r position rest q e h = let P : Position → Type 0 = λ x. GoesOnFrom x r rest q in subst P e h
 
-pub leads_out : (r : Reading) (place : Place) (rest : List ℕ) (q : List Segment) → r.place ≡ place → LeadsFrom place r rest q → Leads r rest q
-leads_out r place rest q e h = let P : Place → Type 0 = λ x. LeadsFrom x r rest q in subst P (sym e) h
+pub goes_on_out : (r : Reading) (position : Position) (rest : List ℕ) (q : List Segment) → r.position ≡ position → GoesOnFrom position r rest q → GoesOnTo r rest q
+goes_on_out r position rest q e h = let P : Position → Type 0 = λ x. GoesOnFrom x r rest q in subst P (sym e) h
 
-pub inside_in : (r : Reading) (place : Place) → r.place ≡ place → IsSound r → IsInside place r
-inside_in r place e sound = let P : Place → Type 0 = λ x. IsInside x r in subst P e sound.inside
+pub inside_in : (r : Reading) (position : Position) → r.position ≡ position → IsSound r → IsInside position r
+inside_in r position e sound = let P : Position → Type 0 = λ x. IsInside x r in subst P e sound.inside
 
-pub inside_out : (r : Reading) (place : Place) → r.place ≡ place → IsInside place r → IsInside r.place r
-inside_out r place e h = let P : Place → Type 0 = λ x. IsInside x r in subst P (sym e) h
+pub inside_out : (r : Reading) (position : Position) → r.position ≡ position → IsInside position r → IsInside r.position r
+inside_out r position e h = let P : Position → Type 0 = λ x. IsInside x r in subst P (sym e) h
 
 -- one part more, and its bytes
 pub length-with : (parts : List Part) (p : Part) → length (parts_text (parts ++ p ∷ [])) ≡ length (parts_text parts) + length (part_text p)
@@ -91,11 +92,11 @@ single (Alternatives names) b rest more tail e good n =
 next_at : (r : Reading) (b : ℕ) (rest : List ℕ) (q : List Segment) → IsPattern q → (h : FromParts r.done r.parts (b ∷ rest) q) → Next b rest h.more h.tail
 next_at r b rest q good h = next_of b rest h.more h.tail (more_good good h) h.text
 
-pub push_steps : (r : Reading) (p : Part) (b : ℕ) → r.place ≡ Between → IsSound r → IsPart p → part_text p ≡ b ∷ [] → r.used < 64
-    → Steps r b (record { done = r.done; parts = r.parts ++ p ∷ []; names = r.names; bytes = r.bytes; place = r.place; used = r.used + 1 })
-push_steps r p b e sound good t room =
+pub push_reads_on : (r : Reading) (p : Part) (b : ℕ) → r.position ≡ Between → IsSound r → IsPart p → part_text p ≡ b ∷ [] → r.used < 64
+    → ReadsOn r b (record { done = r.done; parts = r.parts ++ p ∷ []; names = r.names; bytes = r.bytes; position = r.position; used = r.used + 1 })
+push_reads_on r p b e sound good t room =
     let i : IsBetween r = inside_in r Between e sound in
-    let new : Reading = record { done = r.done; parts = r.parts ++ p ∷ []; names = r.names; bytes = r.bytes; place = r.place; used = r.used + 1 } in
+    let new : Reading = record { done = r.done; parts = r.parts ++ p ∷ []; names = r.names; bytes = r.bytes; position = r.position; used = r.used + 1 } in
     let n : length (part_text p) ≡ 1 = ap length t in
     record {
       sound = record {
@@ -105,18 +106,18 @@ push_steps r p b e sound good t room =
         inside = inside_out new Between e (record { used = (let u = i.used in let w = length-with r.parts p in omega arith); short = omega arith; no_names = i.no_names; no_bytes = i.no_bytes });
       };
       on = λ rest q whole h.
-          let f : FromParts r.done r.parts (b ∷ rest) q = leads_in r Between (b ∷ rest) q e h in
+          let f : FromParts r.done r.parts (b ∷ rest) q = goes_on_in r Between (b ∷ rest) q e h in
           let g = single p b rest f.more f.tail t good (next_at r b rest q whole f) in
-          leads_out new Between rest q e (same_rest (parts_text g.ps ++ pattern_text f.tail) rest (sym g.text) (with_part p g.ps f g.goes));
+          goes_on_out new Between rest q e (same_rest (parts_text g.ps ++ pattern_text f.tail) rest (sym g.text) (with_part p g.ps f g.goes));
       back = λ rest q h.
-          let f : FromParts r.done (r.parts ++ p ∷ []) rest q = leads_in new Between rest q e h in
-          leads_out r Between (b ∷ rest) q e (same_rest (part_text p ++ rest) (b ∷ rest) (ap (λ x. x ++ rest) t) (without_part p f));
+          let f : FromParts r.done (r.parts ++ p ∷ []) rest q = goes_on_in new Between rest q e h in
+          goes_on_out r Between (b ∷ rest) q e (same_rest (part_text p ++ rest) (b ∷ rest) (ap (λ x. x ++ rest) t) (without_part p f));
     }
 
-pub no_push : (r : Reading) (p : Part) (b : ℕ) → r.place ≡ Between → IsSound r → IsPart p → part_text p ≡ b ∷ [] → r.used ≡ 64 → NoStep r b
+pub no_push : (r : Reading) (p : Part) (b : ℕ) → r.position ≡ Between → IsSound r → IsPart p → part_text p ≡ b ∷ [] → r.used ≡ 64 → ReadsNoFurther r b
 no_push r p b e sound good t full rest q whole h =
     let i : IsBetween r = inside_in r Between e sound in
-    let f : FromParts r.done r.parts (b ∷ rest) q = leads_in r Between (b ∷ rest) q e h in
+    let f : FromParts r.done r.parts (b ∷ rest) q = goes_on_in r Between (b ∷ rest) q e h in
     let g = single p b rest f.more f.tail t good (next_at r b rest q whole f) in
     let u : r.used ≡ length (parts_text r.parts) = i.used in
     let n : length (part_text p) ≡ 1 = ap length t in
@@ -125,10 +126,10 @@ no_push r p b e sound good t full rest q whole h =
     omega arith
 
 -- a byte that begins nothing
-pub no_other : (r : Reading) (b : ℕ) → r.place ≡ Between → (IsPathByte b → ⊥) → (b ≡ 47 → ⊥) → (b ≡ 42 → ⊥) → (b ≡ 63 → ⊥) → (b ≡ 91 → ⊥) → (b ≡ 123 → ⊥)
-    → NoStep r b
+pub no_other : (r : Reading) (b : ℕ) → r.position ≡ Between → (IsPathByte b → ⊥) → (b ≡ 47 → ⊥) → (b ≡ 42 → ⊥) → (b ≡ 63 → ⊥) → (b ≡ 91 → ⊥) → (b ≡ 123 → ⊥)
+    → ReadsNoFurther r b
 no_other r b e path slash star mark bracket brace rest q whole h =
-    let f : FromParts r.done r.parts (b ∷ rest) q = leads_in r Between (b ∷ rest) q e h in go (next_at r b rest q whole f) where
+    let f : FromParts r.done r.parts (b ∷ rest) q = goes_on_in r Between (b ∷ rest) q e h in go (next_at r b rest q whole f) where
       go : {more : List Part} {tail : List Segment} → Next b rest more tail → ⊥
       go (Next.at_slash s ss x m t y) = slash x
       go (Next.at_byte ps p m y) = path p
@@ -178,9 +179,9 @@ alternatives_text names others bytes more after rest b n e t x =
     rw (n, e, t, x) (ap (λ z. 123 ∷ z) (append_assoc (more ++ commas) (125 ∷ []) after ∙ append_assoc more commas (125 ∷ after)))
 
 -- after the bracket
-pub bracket_steps : (r : Reading) (b : ℕ) → b ≡ 91 → r.place ≡ Between → IsSound r → r.used + 3 ≤ 64
-    → Steps r b (record { done = r.done; parts = r.parts; names = r.names; bytes = r.bytes; place = InSet; used = r.used + 1 })
-bracket_steps r b x e sound room =
+pub bracket_reads_on : (r : Reading) (b : ℕ) → b ≡ 91 → r.position ≡ Between → IsSound r → r.used + 3 ≤ 64
+    → ReadsOn r b (record { done = r.done; parts = r.parts; names = r.names; bytes = r.bytes; position = InSet; used = r.used + 1 })
+bracket_reads_on r b x e sound room =
     let i : IsBetween r = inside_in r Between e sound in
     record {
       sound = record {
@@ -196,7 +197,7 @@ bracket_steps r b x e sound room =
         };
       };
       on = λ rest q whole h.
-          let f : FromParts r.done r.parts (b ∷ rest) q = leads_in r Between (b ∷ rest) q e h in
+          let f : FromParts r.done r.parts (b ∷ rest) q = goes_on_in r Between (b ∷ rest) q e h in
           let g = bracket b rest f.more f.tail x (next_at r b rest q whole f) in
           record {
             more = g.bytes;
@@ -206,15 +207,15 @@ bracket_steps r b x e sound room =
                 (ap (λ (y : List ℕ). r.parts ++ Set (y ++ g.bytes) ∷ []) (sym i.no_bytes)) (with_part (Set g.bytes) g.ps f g.goes);
           };
       back = λ rest q h.
-          leads_out r Between (b ∷ rest) q e
+          goes_on_out r Between (b ∷ rest) q e
           (same_rest (part_text (Set (r.bytes ++ h.more)) ++ h.after) (b ∷ rest) (set_text r.bytes h.more h.after rest b i.no_bytes h.text x)
           (without_part (Set (r.bytes ++ h.more)) h.closed));
     }
 
-pub no_bracket_full : (r : Reading) (b : ℕ) → b ≡ 91 → r.place ≡ Between → IsSound r → 64 < r.used + 3 → NoStep r b
+pub no_bracket_full : (r : Reading) (b : ℕ) → b ≡ 91 → r.position ≡ Between → IsSound r → 64 < r.used + 3 → ReadsNoFurther r b
 no_bracket_full r b x e sound full rest q whole h =
     let i : IsBetween r = inside_in r Between e sound in
-    let f : FromParts r.done r.parts (b ∷ rest) q = leads_in r Between (b ∷ rest) q e h in
+    let f : FromParts r.done r.parts (b ∷ rest) q = goes_on_in r Between (b ∷ rest) q e h in
     let g = bracket b rest f.more f.tail x (next_at r b rest q whole f) in
     let u : r.used ≡ length (parts_text r.parts) = i.used in
     let m : length (parts_text f.more) ≡ length (part_text (Set g.bytes)) + length (parts_text g.ps) = length-more f.more (Set g.bytes) g.ps g.goes in
@@ -225,9 +226,9 @@ no_bracket_full r b x e sound full rest q whole h =
     omega arith
 
 -- after the brace
-pub brace_steps : (r : Reading) (b : ℕ) → b ≡ 123 → r.place ≡ Between → IsSound r → r.used + 3 ≤ 64
-    → Steps r b (record { done = r.done; parts = r.parts; names = r.names; bytes = r.bytes; place = InAlternatives; used = r.used + 1 })
-brace_steps r b x e sound room =
+pub brace_reads_on : (r : Reading) (b : ℕ) → b ≡ 123 → r.position ≡ Between → IsSound r → r.used + 3 ≤ 64
+    → ReadsOn r b (record { done = r.done; parts = r.parts; names = r.names; bytes = r.bytes; position = InAlternatives; used = r.used + 1 })
+brace_reads_on r b x e sound room =
     let i : IsBetween r = inside_in r Between e sound in
     record {
       sound = record {
@@ -243,7 +244,7 @@ brace_steps r b x e sound room =
         };
       };
       on = λ rest q whole h.
-          let f : FromParts r.done r.parts (b ∷ rest) q = leads_in r Between (b ∷ rest) q e h in
+          let f : FromParts r.done r.parts (b ∷ rest) q = goes_on_in r Between (b ∷ rest) q e h in
           let g = brace b rest f.more f.tail x (next_at r b rest q whole f) in
           record {
             more = g.name;
@@ -256,16 +257,16 @@ brace_steps r b x e sound room =
                 (with_part (Alternatives (g.name ∷ g.names)) g.ps f g.goes);
           };
       back = λ rest q h.
-          leads_out r Between (b ∷ rest) q e
+          goes_on_out r Between (b ∷ rest) q e
           (same_rest (part_text (Alternatives (r.names ++ (r.bytes ++ h.more) ∷ h.others)) ++ h.after) (b ∷ rest)
           (alternatives_text r.names h.others r.bytes h.more h.after rest b i.no_names i.no_bytes h.text x)
           (without_part (Alternatives (r.names ++ (r.bytes ++ h.more) ∷ h.others)) h.closed));
     }
 
-pub no_brace_full : (r : Reading) (b : ℕ) → b ≡ 123 → r.place ≡ Between → IsSound r → 64 < r.used + 3 → NoStep r b
+pub no_brace_full : (r : Reading) (b : ℕ) → b ≡ 123 → r.position ≡ Between → IsSound r → 64 < r.used + 3 → ReadsNoFurther r b
 no_brace_full r b x e sound full rest q whole h =
     let i : IsBetween r = inside_in r Between e sound in
-    let f : FromParts r.done r.parts (b ∷ rest) q = leads_in r Between (b ∷ rest) q e h in
+    let f : FromParts r.done r.parts (b ∷ rest) q = goes_on_in r Between (b ∷ rest) q e h in
     let g = brace b rest f.more f.tail x (next_at r b rest q whole f) in
     let u : r.used ≡ length (parts_text r.parts) = i.used in
     let m : length (parts_text f.more) ≡ length (part_text (Alternatives (g.name ∷ g.names))) + length (parts_text g.ps) = length-more f.more (Alternatives (g.name ∷ g.names)) g.ps g.goes in
@@ -278,13 +279,13 @@ no_brace_full r b x e sound full rest q whole h =
     omega arith
 
 -- both at once, as the code has them
-pub opens_steps : (r : Reading) (place : Place) (b : ℕ) → IsOpening place b → r.place ≡ Between → IsSound r → r.used + 3 ≤ 64
-    → Steps r b (record { done = r.done; parts = r.parts; names = r.names; bytes = r.bytes; place = place; used = r.used + 1 })
-opens_steps r Between b x e sound room = absurd x
-opens_steps r InSet b x e sound room = bracket_steps r b x e sound room
-opens_steps r InAlternatives b x e sound room = brace_steps r b x e sound room
+pub opens_reads_on : (r : Reading) (position : Position) (b : ℕ) → IsOpening position b → r.position ≡ Between → IsSound r → r.used + 3 ≤ 64
+    → ReadsOn r b (record { done = r.done; parts = r.parts; names = r.names; bytes = r.bytes; position = position; used = r.used + 1 })
+opens_reads_on r Between b x e sound room = absurd x
+opens_reads_on r InSet b x e sound room = bracket_reads_on r b x e sound room
+opens_reads_on r InAlternatives b x e sound room = brace_reads_on r b x e sound room
 
-pub no_opening : (r : Reading) (place : Place) (b : ℕ) → IsOpening place b → r.place ≡ Between → IsSound r → 64 < r.used + 3 → NoStep r b
+pub no_opening : (r : Reading) (position : Position) (b : ℕ) → IsOpening position b → r.position ≡ Between → IsSound r → 64 < r.used + 3 → ReadsNoFurther r b
 no_opening r Between b x e sound full = absurd x
 no_opening r InSet b x e sound full = no_bracket_full r b x e sound full
 no_opening r InAlternatives b x e sound full = no_brace_full r b x e sound full
@@ -309,11 +310,11 @@ whole_slash : (q done tail others : List Segment) (segment closed next : Segment
     → q ≡ (done ++ closed ∷ []) ++ next ∷ others
 whole_slash q done tail others segment closed next w s t = rw (w, s, t) (sym (append_assoc done (closed ∷ []) (next ∷ others)))
 
-pub slash_steps : (r : Reading) (closed : Segment) → r.place ≡ Between → IsSound r → IsSegmentOf r.parts closed → 0 < length r.parts → length r.done + 1 < 16
-    → Steps r 47 (record { done = r.done ++ closed ∷ []; parts = []; names = r.names; bytes = r.bytes; place = r.place; used = 0 })
-slash_steps r closed e sound is some room =
+pub slash_reads_on : (r : Reading) (closed : Segment) → r.position ≡ Between → IsSound r → IsSegmentOf r.parts closed → 0 < length r.parts → length r.done + 1 < 16
+    → ReadsOn r 47 (record { done = r.done ++ closed ∷ []; parts = []; names = r.names; bytes = r.bytes; position = r.position; used = 0 })
+slash_reads_on r closed e sound is some room =
     let i : IsBetween r = inside_in r Between e sound in
-    let new : Reading = record { done = r.done ++ closed ∷ []; parts = []; names = r.names; bytes = r.bytes; place = r.place; used = 0 } in
+    let new : Reading = record { done = r.done ++ closed ∷ []; parts = []; names = r.names; bytes = r.bytes; position = r.position; used = 0 } in
     record {
       sound = record {
         few = (let n = length-append r.done (closed ∷ []) in omega arith);
@@ -323,10 +324,10 @@ slash_steps r closed e sound is some room =
         inside = inside_out new Between e (record { used = refl; short = omega arith; no_names = i.no_names; no_bytes = i.no_bytes });
       };
       on = λ rest q whole h.
-          let f : FromParts r.done r.parts (47 ∷ rest) q = leads_in r Between (47 ∷ rest) q e h in
+          let f : FromParts r.done r.parts (47 ∷ rest) q = goes_on_in r Between (47 ∷ rest) q e h in
           let g = slash rest f.more f.tail (next_at r 47 rest q whole f) in
           let its : parts_of f.segment ≡ r.parts = f.its_parts ∙ (ap (λ x. r.parts ++ x) g.ended ∙ append-nil r.parts) in
-          leads_out new Between rest q e (record {
+          goes_on_out new Between rest q e (record {
             segment = g.next;
             more = parts_of g.next;
             tail = g.others;
@@ -335,8 +336,8 @@ slash_steps r closed e sound is some room =
             text = g.text ∙ ap (λ x. x ++ pattern_text g.others) (segment_text-parts g.next);
           });
       back = λ rest q h.
-          let f : FromParts (r.done ++ closed ∷ []) [] rest q = leads_in new Between rest q e h in
-          leads_out r Between (47 ∷ rest) q e (record {
+          let f : FromParts (r.done ++ closed ∷ []) [] rest q = goes_on_in new Between rest q e h in
+          goes_on_out r Between (47 ∷ rest) q e (record {
             segment = closed;
             more = [];
             tail = f.segment ∷ f.tail;
@@ -346,9 +347,9 @@ slash_steps r closed e sound is some room =
           });
     }
 
-pub no_slash_empty : (r : Reading) → r.place ≡ Between → r.parts ≡ [] → NoStep r 47
+pub no_slash_empty : (r : Reading) → r.position ≡ Between → r.parts ≡ [] → ReadsNoFurther r 47
 no_slash_empty r e none rest q whole h =
-    let f : FromParts r.done r.parts (47 ∷ rest) q = leads_in r Between (47 ∷ rest) q e h in
+    let f : FromParts r.done r.parts (47 ∷ rest) q = goes_on_in r Between (47 ∷ rest) q e h in
     let g = slash rest f.more f.tail (next_at r 47 rest q whole f) in
     let s : 0 < length r.parts + length f.more = parts_some whole f in
     let n = ap length none in
@@ -359,9 +360,9 @@ length_slash : (q done tail others : List Segment) (segment next : Segment) → 
     → length q ≡ length done + length (segment ∷ next ∷ others)
 length_slash q done tail others segment next w t = rw (w, t) (length-append done (segment ∷ next ∷ others))
 
-pub no_slash_full : (r : Reading) → r.place ≡ Between → length r.done + 1 ≡ 16 → NoStep r 47
+pub no_slash_full : (r : Reading) → r.position ≡ Between → length r.done + 1 ≡ 16 → ReadsNoFurther r 47
 no_slash_full r e full rest q whole h =
-    let f : FromParts r.done r.parts (47 ∷ rest) q = leads_in r Between (47 ∷ rest) q e h in
+    let f : FromParts r.done r.parts (47 ∷ rest) q = goes_on_in r Between (47 ∷ rest) q e h in
     let g = slash rest f.more f.tail (next_at r 47 rest q whole f) in
     let n = length_slash q r.done f.tail g.others f.segment g.next f.whole g.after in
     let few : length q ≤ 16 = whole.few in

@@ -1,10 +1,11 @@
+-- A path that is being read goes on with a byte, or no path does.
 use Rattle.std.proofs.Common.{◌≡◌, ℕ, ◌+◌, ◌<◌, ◌≤◌, List, [], ◌∷◌, ◌++◌, length, refl, arith, append_assoc, length-append, inl, inr, Some, None, ap, suc, ◌*◌, lit≤, Bool, true, false, Option, subst}
 use Rattle.std.specs.List.{All}
 use Rattle.std.proofs.lemmas.List.{append-nil}
 use Rattle.std.proofs.lemmas.List.Elements.{All-head, All-tail, All-nil, All-cons, All-push}
 use Rattle.vt_path.specs.Byte.{IsPathByte}
 use Rattle.vt_path.specs.Path.{IsPath, IsSegment, path_text}
-use Rattle.vt_path.specs.private.PathReading.{Leads, IsSound, Steps, NoStep, Ends, Takes}
+use Rattle.vt_path.specs.private.PathReading.{GoesOnTo, IsSound, ReadsOn, ReadsNoFurther, Ends, Takes}
 use Rattle.vt_path.proofs.ByteLemmas.{not_path_byte}
 use Rattle.vt_path.proofs.Prefixes.{Reads, Opens}
 use Rattle.vt_path.proofs.Lists.{All-back, All-middle}
@@ -46,11 +47,11 @@ byte b rest (c ∷ more) tail p e = record {
 }
 
 -- the segment that is being read, whole
-segment_of : {done : List (List ℕ)} {begun rest : List ℕ} {path : List (List ℕ)} → IsPath path → (h : Leads done begun rest path) → IsSegment (begun ++ h.more)
+segment_of : {done : List (List ℕ)} {begun rest : List ℕ} {path : List (List ℕ)} → IsPath path → (h : GoesOnTo done begun rest path) → IsSegment (begun ++ h.more)
 segment_of {done} {begun} {rest} {path} good h =
     All-middle IsSegment done (begun ++ h.more) h.tail (let e = h.whole in let g = good.segments in rw e at g)
 
-more_bytes : {done : List (List ℕ)} {begun rest : List ℕ} {path : List (List ℕ)} → IsPath path → (h : Leads done begun rest path) → All IsPathByte h.more
+more_bytes : {done : List (List ℕ)} {begun rest : List ℕ} {path : List (List ℕ)} → IsPath path → (h : GoesOnTo done begun rest path) → All IsPathByte h.more
 more_bytes {done} {begun} good h = All-back IsPathByte begun h.more (segment_of good h).bytes
 
 -- what the lists say of the path, once more is known of them
@@ -69,7 +70,7 @@ length_slash path done tail others segment next e t = rw (e, t) (length-append d
 length_byte : (begun more later : List ℕ) (b : ℕ) → more ≡ b ∷ later → length (begun ++ more) ≡ length begun + length (b ∷ later)
 length_byte begun more later b e = rw e (length-append begun _)
 
-pub no_slash_empty : (done : List (List ℕ)) → NoStep done [] 47
+pub no_slash_empty : (done : List (List ℕ)) → ReadsNoFurther done [] 47
 no_slash_empty done rest path good h =
     let s = slash rest h.more h.tail (more_bytes good h) h.text in
     let long : 0 < length ([] ++ h.more) = (segment_of good h).nonempty in
@@ -77,16 +78,16 @@ no_slash_empty done rest path good h =
     let z : 0 < length h.more = long in
     absurd (let y : 0 < length {A = ℕ} [] = rw e at z in omega arith)
 
-pub no_slash_full : (done : List (List ℕ)) (begun : List ℕ) → length done + 1 ≡ 16 → NoStep done begun 47
+pub no_slash_full : (done : List (List ℕ)) (begun : List ℕ) → length done + 1 ≡ 16 → ReadsNoFurther done begun 47
 no_slash_full done begun full rest path good h =
     let s = slash rest h.more h.tail (more_bytes good h) h.text in
     let n : length path ≡ length done + length ((begun ++ h.more) ∷ s.next ∷ s.others) = length_slash path done h.tail s.others (begun ++ h.more) s.next h.whole s.after in
     let few : length path ≤ 16 = good.few in
     absurd (omega arith)
 
-pub slash_steps : (done : List (List ℕ)) (begun : List ℕ) → IsSound done begun → 0 < length begun → length done + 1 < 16
-    → Steps done begun 47 (done ++ begun ∷ []) []
-slash_steps done begun sound some room = record {
+pub slash_reads_on : (done : List (List ℕ)) (begun : List ℕ) → IsSound done begun → 0 < length begun → length done + 1 < 16
+    → ReadsOn done begun 47 (done ++ begun ∷ []) []
+slash_reads_on done begun sound some room = record {
   sound = record {
     few = rw length-append (omega arith);
     segments = All-push IsSegment done begun sound.segments (record { nonempty = some; short = sound.short; bytes = sound.bytes });
@@ -110,9 +111,9 @@ slash_steps done begun sound some room = record {
       };
 }
 
-pub byte_steps : (done : List (List ℕ)) (begun : List ℕ) (b : ℕ) → IsSound done begun → IsPathByte b → length begun < 64
-    → Steps done begun b done (begun ++ b ∷ [])
-byte_steps done begun b sound p room = record {
+pub byte_reads_on : (done : List (List ℕ)) (begun : List ℕ) (b : ℕ) → IsSound done begun → IsPathByte b → length begun < 64
+    → ReadsOn done begun b done (begun ++ b ∷ [])
+byte_reads_on done begun b sound p room = record {
   sound = record {
     few = sound.few;
     segments = sound.segments;
@@ -136,7 +137,7 @@ byte_steps done begun b sound p room = record {
       };
 }
 
-pub no_byte_full : (done : List (List ℕ)) (begun : List ℕ) (b : ℕ) → IsPathByte b → length begun ≡ 64 → NoStep done begun b
+pub no_byte_full : (done : List (List ℕ)) (begun : List ℕ) (b : ℕ) → IsPathByte b → length begun ≡ 64 → ReadsNoFurther done begun b
 no_byte_full done begun b p full rest path good h =
     let s = byte b rest h.more h.tail p h.text in
     let short : length (begun ++ h.more) ≤ 64 = (segment_of good h).short in
@@ -151,7 +152,7 @@ other b rest (c ∷ more) tail p q all e =
     let y : b ≡ c = cc in
     p (rw y (All-head IsPathByte c more all))
 
-pub no_other : (done : List (List ℕ)) (begun : List ℕ) (b : ℕ) → (IsPathByte b → ⊥) → (b ≡ 47 → ⊥) → NoStep done begun b
+pub no_other : (done : List (List ℕ)) (begun : List ℕ) (b : ℕ) → (IsPathByte b → ⊥) → (b ≡ 47 → ⊥) → ReadsNoFurther done begun b
 no_other done begun b p q rest path good h = other b rest h.more h.tail p q (more_bytes good h) h.text
 
 -- at the end of the bytes
@@ -177,7 +178,7 @@ ends_some done begun sound some = (
 )
 
 -- whatever was read, some bytes finish a path
-pub path_opens : (done : List (List ℕ)) (begun : List ℕ) → IsSound done begun → Opens IsPath (Leads done begun)
+pub path_opens : (done : List (List ℕ)) (begun : List ℕ) → IsSound done begun → Opens IsPath (GoesOnTo done begun)
 unfolding IsPathByte
 path_opens done [] sound =
     let one : IsPathByte 97 = inr (inr (inl (lit≤ tt, lit≤ tt))) in
@@ -195,12 +196,12 @@ path_opens done (b ∷ bs) sound =
     let end = ends_some done (b ∷ bs) sound (omega arith) in ([], done ++ (b ∷ bs) ∷ [], end.0, end.1)
 
 -- what the first slash leaves to be read
-pub path_begins : Reads IsPath path_text (Leads [] []) (47 ∷ [])
+pub path_begins : Reads IsPath path_text (GoesOnTo [] []) (47 ∷ [])
 path_begins = record {
   on = λ rest path good e. begun rest path good e;
   back = λ rest path h. (let w = h.whole in let t = h.text in rw (w, t) refl);
 } where
-  begun : (rest : List ℕ) (path : List (List ℕ)) → IsPath path → 47 ∷ rest ≡ path_text path → Leads [] [] rest path
+  begun : (rest : List ℕ) (path : List (List ℕ)) → IsPath path → 47 ∷ rest ≡ path_text path → GoesOnTo [] [] rest path
   begun rest [] good e = absurd (let z : 47 ∷ rest ≡ [] = e in cc)
   begun rest (s ∷ ss) good e = record {
     more = s;
@@ -221,23 +222,23 @@ pub length-path_text : (path : List (List ℕ)) → IsPath path → length (path
 length-path_text path good = let f = good.few in omega (arith, lengths path good.segments)
 
 pub takes_yes : (done : List (List ℕ)) (begun : List ℕ) (b : ℕ) (done' : List (List ℕ)) (begun' : List ℕ) (taken : Bool) → taken ≡ true
-    → Takes done begun b done' begun' taken → Steps done begun b done' begun'
+    → Takes done begun b done' begun' taken → ReadsOn done begun b done' begun'
 takes_yes done begun b done' begun' true e h = h
 takes_yes done begun b done' begun' false e h = absurd (let z : false ≡ true = e in cc)
 
 pub takes_no : (done : List (List ℕ)) (begun : List ℕ) (b : ℕ) (done' : List (List ℕ)) (begun' : List ℕ) (taken : Bool) → taken ≡ false
-    → Takes done begun b done' begun' taken → NoStep done begun b
+    → Takes done begun b done' begun' taken → ReadsNoFurther done begun b
 takes_no done begun b done' begun' true e h = absurd (let z : true ≡ false = e in cc)
 takes_no done begun b done' begun' false e h = h
 
 pub ends_yes : (done : List (List ℕ)) (begun : List ℕ) (o : Option (List (List ℕ))) (path : List (List ℕ)) → o ≡ Some path → Ends done begun o
-    → IsPath path × Leads done begun [] path
+    → IsPath path × GoesOnTo done begun [] path
 ends_yes done begun None path e h = absurd (let z : None ≡ Some path = e in cc)
 ends_yes done begun (Some p) path e h =
-    let same : p ≡ path = cc in let P : List (List ℕ) → Type 0 = λ q. IsPath q × Leads done begun [] q in subst P same h
+    let same : p ≡ path = cc in let P : List (List ℕ) → Type 0 = λ q. IsPath q × GoesOnTo done begun [] q in subst P same h
 
 pub ends_no : (done : List (List ℕ)) (begun : List ℕ) (o : Option (List (List ℕ))) → o ≡ None → Ends done begun o
-    → (path : List (List ℕ)) → IsPath path → Leads done begun [] path → ⊥
+    → (path : List (List ℕ)) → IsPath path → GoesOnTo done begun [] path → ⊥
 ends_no done begun None e h = h
 ends_no done begun (Some p) e h = absurd (let z : Some p ≡ None = e in cc)
 

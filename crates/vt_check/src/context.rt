@@ -1,13 +1,13 @@
-//! Where a part of a tree stands.
+//! The context in which a part of a tree stands.
 
 ghost use Rattle.std.specs.Prelude.{◌≡◌};
 ghost use Rattle.vt_tree.specs.Parts.{after_dot, at_line, in_text, inside};
 
 use std::marker::Model;
 
-/// Where a part of a tree stands. Contracts see it as the definitions do.
+/// The context in which a part of a tree stands. Contracts see it as the definitions do.
 #[derive(Clone, Copy)]
-pub(crate) struct Place {
+pub(crate) struct Context {
     /// The line of the innermost statement round it.
     pub(crate) line: u32,
     /// Whether it is a whole statement of the text itself, with or without a condition after it.
@@ -16,42 +16,42 @@ pub(crate) struct Place {
     pub(crate) dotted: bool,
 }
 
-impl Model for Place {
-    ghost use Rattle.vt_tree.specs.Parts.{Place as PartPlace};
+impl Model for Context {
+    ghost use Rattle.vt_tree.specs.Parts.{Context as PartContext};
 
-    ghost Value = { PartPlace };
+    ghost Value = { PartContext };
 
-    ghost view = { λ p. record { line = p.line; outermost = p.outermost; dotted = p.dotted } };
+    ghost view = { λ context. record { line = context.line; outermost = context.outermost; dotted = context.dotted } };
 
-    ghost inverse = { λ p. record { line = p.line; outermost = p.outermost; dotted = p.dotted } };
+    ghost inverse = { λ context. record { line = context.line; outermost = context.outermost; dotted = context.dotted } };
 }
 
-impl Place {
-    /// Where the statements of the text itself stand.
-    pub(crate) fn of_text() -> Place
+impl Context {
+    /// The context of the statements of the text itself.
+    pub(crate) fn of_text() -> Context
         ensures { result ≡ in_text }
     {
-        Place {
+        Context {
             line: 0,
             outermost: true,
             dotted: false,
         }
     }
 
-    pub(crate) fn inside(self) -> Place
+    pub(crate) fn inside(self) -> Context
         ensures { result ≡ inside self }
     {
-        Place {
+        Context {
             line: self.line,
             outermost: false,
             dotted: false,
         }
     }
 
-    pub(crate) fn after_dot(self) -> Place
+    pub(crate) fn after_dot(self) -> Context
         ensures { result ≡ after_dot self }
     {
-        Place {
+        Context {
             line: self.line,
             outermost: false,
             dotted: true,
@@ -59,10 +59,10 @@ impl Place {
     }
 
     /// A statement here that begins on this line.
-    pub(crate) fn at_line(self, line: u32) -> Place
+    pub(crate) fn at_line(self, line: u32) -> Context
         ensures { result ≡ at_line line self }
     {
-        Place {
+        Context {
             line,
             outermost: self.outermost,
             dotted: false,
