@@ -2,7 +2,6 @@
 ghost use Rattle.std.specs.Prelude.{◌≤◌, length};
 
 use std::alloc::Global;
-use std::test::Fail;
 use vt_check::{CheckFault, Checked, check};
 use vt_lex::lex;
 use vt_parse::parse;
@@ -18,72 +17,87 @@ live_loop :a, init: 1 do |n|; at n do |t|; play t; end; density 2 do |i|; sleep 
 x = 1; 1.foo => line 1: method";
 
 /// The tree of a text, checked.
-fn checked_of(alloc: Global, text: &[u8]) -> Result<Result<Checked, CheckFault>, Fail>
+fn checked_of(alloc: Global, text: &[u8]) -> Option<Result<Checked, CheckFault>>
     requires { length text.now ≤ 1048576 }
 {
     let tokens = match lex(alloc, text, 1) {
         Ok(tokens) => tokens,
-        Err(_) => return Err("no tokens".into()),
+        Err(_) => return None,
     };
     let tree = match parse(alloc, text, &tokens) {
         Ok(tree) => tree,
-        Err(_) => return Err("no tree".into()),
+        Err(_) => return None,
     };
-    Ok(check(alloc, tree))
+    Some(check(alloc, tree))
 }
 
-/// Appends the number of a block and its parameters.
-fn add_block(text: &mut Vec<u8>, number: u32, block: &Block) -> Result<(), Fail> {
-    if number > 0 {
-        text.push(b' ')?;
+/// What is left of a text behind the number and the parameters of a block.
+fn behind<'a>(block: &Block, number: u32, text: &'a str) -> Option<&'a str> {
+    let (head, rest) = text.split_once(')').unwrap_or((text, ""));
+    let (first, params) = head.split_once('(')?;
+    if first.parse::<u32>().ok()? != number || !are_names(block, params) {
+        return None;
     }
-    text.push(b'0' + (number % 10) as u8)?;
-    text.push(b'(')?;
-    for (i, name) in block.params.as_slice().iter().enumerate() {
-        if i > 0 {
-            text.push(b' ')?;
+    Some(rest.strip_prefix(' ').unwrap_or(rest))
+}
+
+/// Whether the parameters of a block are the words of a text.
+fn are_names(block: &Block, words: &str) -> bool {
+    let mut left = block.params.as_slice();
+    for word in words.split_whitespace() {
+        match left.split_first() {
+            Some((name, rest)) if name.as_bytes() == word.as_bytes() => left = rest,
+            _ => return false,
         }
-        text.extend_from_slice(name.as_bytes())?;
     }
-    text.push(b')')?;
-    Ok(())
+    left.is_empty()
 }
 
-fn blocks_of(alloc: Global, checked: &Checked) -> Result<String, Fail> {
-    let mut text = Vec::new(alloc);
+/// Whether the blocks of a tree are those of a text.
+fn are_blocks(checked: &Checked, text: &str) -> bool {
+    let mut left = text;
     for number in 0..10 {
-        match checked.block(number) {
-            None => return Ok(String::from_utf8(text)?),
-            Some(block) => add_block(&mut text, number, block)?,
+        let Some(block) = checked.block(number) else {
+            return left.is_empty();
+        };
+        match behind(block, number, left) {
+            Some(rest) => left = rest,
+            None => return false,
         }
     }
-    Err("more than ten blocks".into())
+    false
 }
 
-fn told(alloc: Global, text: &str) -> Result<String, Fail> {
+fn is_told(alloc: Global, fault: CheckFault, want: &str) -> bool {
+    match fault.to_string(alloc) {
+        Ok(words) => words.as_str() == want,
+        Err(_) => false,
+    }
+}
+
+/// Whether the text of a row has its blocks, or its fault.
+fn holds(alloc: Global, row: &str) -> Option<bool> {
+    let (text, want) = row.rsplit_once(" => ")?;
     if text.len() > 1_048_576 {
-        return Err("too long".into());
+        return None;
     }
     match checked_of(alloc, text.as_bytes())? {
-        Ok(checked) => blocks_of(alloc, &checked),
-        Err(fault) => Ok(fault.to_string(alloc)?),
+        Ok(checked) => Some(are_blocks(&checked, want)),
+        Err(fault) => Some(is_told(alloc, fault, want)),
     }
 }
 
-/// The first row whose blocks are others, with these, or nothing.
-fn first_wrong(alloc: Global) -> Result<String, Fail> {
-    for line in ROWS.lines() {
-        let (text, want) = line.rsplit_once(" => ").ok_or("no row")?;
-        let found = told(alloc, text)?;
-        if found.as_str() != want {
-            return Ok(format!(in alloc; "{line} and not {found}")?);
+/// The first row that does not hold, or nothing.
+fn first_wrong(alloc: Global) -> Option<&'static str> {
+    for row in ROWS.lines() {
+        if holds(alloc, row) != Some(true) {
+            return Some(row);
         }
     }
-    Ok(String::new(alloc))
+    None
 }
 
 #[test]
-fn checked_trees_have_their_blocks(rt: HostRuntime) -> Result<(), Fail> {
-    assert_eq!(rt; first_wrong(rt.alloc())?.as_str(), "");
-    Ok(())
+fn checked_trees_have_their_blocks(rt: HostRuntime) {
+    assert_eq!(rt; first_wrong(rt.alloc()), None);
 }

@@ -1,8 +1,7 @@
 //! Texts, each with its tokens, and the values of texts in quotes.
 ghost use Rattle.std.specs.Prelude.{◌≤◌, length};
 
-use std::alloc::{AllocError, Global};
-use std::test::Fail;
+use std::alloc::Global;
 use vt_lex::{LexFault, Token, TokenKind, lex, text_value};
 
 /// Texts, each with its tokens behind ` => `, below headings that begin with `// `. In a text `^` is a newline, `~` a carriage
@@ -148,19 +147,23 @@ aaaaaaaaaaaaaaaaaaaaaaaaaaaaaaaaaaaaaaaaaaaaaaaaaaaaaaaaaaaaaaaa: => l0-65g
 :aaaaaaaaaaaaaaaaaaaaaaaaaaaaaaaaaaaaaaaaaaaaaaaaaaaaaaaaaaaaaaaa => s0-65g"##
 }
 
+/// The byte that a byte of a row stands for.
+fn byte_of(byte: u8) -> u8 {
+    match byte {
+        b'^' => b'\n',
+        b'~' => b'\r',
+        b'`' => b'\t',
+        other => other,
+    }
+}
+
 /// The bytes of the text of a row.
-fn text_of(alloc: Global, row: &str) -> Result<Vec<u8>, AllocError> {
+fn text_of(alloc: Global, row: &str) -> Option<Vec<u8>> {
     let mut text = Vec::new(alloc);
     for byte in row.bytes() {
-        let byte = match byte {
-            b'^' => b'\n',
-            b'~' => b'\r',
-            b'`' => b'\t',
-            other => other,
-        };
-        text.push(byte)?;
+        text.push(byte_of(byte)).ok()?;
     }
-    Ok(text)
+    Some(text)
 }
 
 fn letter(kind: TokenKind) -> &'static str {
@@ -178,83 +181,110 @@ fn letter(kind: TokenKind) -> &'static str {
     }
 }
 
-/// A token as the rows spell it, behind one on this line.
-fn token_text(alloc: Global, token: &Token, line: u32) -> Result<String, AllocError> {
-    let kind = letter(token.kind);
-    let from = token.from;
-    let to = token.to;
-    let gap = if token.gap { "g" } else { "" };
-    let tight = if token.tight { "t" } else { "" };
-    if token.line == line {
-        return format!(in alloc; "{kind}{from}-{to}{gap}{tight}");
+/// The text without its end, and whether it has that end.
+fn without<'a>(text: &'a str, end: &str) -> (&'a str, bool) {
+    match text.strip_suffix(end) {
+        Some(before) => (before, true),
+        None => (text, false),
     }
-    let line = token.line;
-    format!(in alloc; "{kind}{from}-{to}{gap}{tight}@{line}")
 }
 
-fn tokens_text(alloc: Global, tokens: &[Token], first_line: u32) -> Result<String, AllocError> {
-    let mut text = String::new(alloc);
+/// Whether a token is the one that the word of a row spells, behind one on this line.
+fn is_token(token: &Token, word: &str, line: u32) -> Option<bool> {
+    let word = word.strip_prefix(letter(token.kind))?;
+    let (bytes, line) = match word.split_once('@') {
+        Some((bytes, line)) => (bytes, line.parse::<u32>().ok()?),
+        None => (word, line),
+    };
+    let (bytes, tight) = without(bytes, "t");
+    let (bytes, gap) = without(bytes, "g");
+    let (from, to) = bytes.split_once('-')?;
+    let is_there = from.parse::<u32>().ok()? == token.from && to.parse::<u32>().ok()? == token.to;
+    Some(is_there && token.line == line && token.gap == gap && token.tight == tight)
+}
+
+/// Whether the tokens are those that a row spells.
+fn are_tokens(tokens: &[Token], want: &str, first_line: u32) -> bool {
+    if want == "none" {
+        return tokens.is_empty();
+    }
     let mut line = first_line;
-    for token in tokens {
-        if !text.is_empty() {
-            text.push(' ')?;
+    let mut left = tokens;
+    for word in want.split(' ') {
+        match left.split_first() {
+            Some((token, rest)) if is_token(token, word, line) == Some(true) => {
+                line = token.line;
+                left = rest;
+            }
+            _ => return false,
         }
-        text.push_str(token_text(alloc, token, line)?.as_str())?;
-        line = token.line;
     }
-    if text.is_empty() {
-        text.push_str("none")?;
-    }
-    Ok(text)
+    left.is_empty()
 }
 
-/// The tokens of a text, or its fault, whose first line has this number.
-fn told(alloc: Global, text: &[u8], first_line: u32) -> Result<String, Fail> {
+/// Whether the fault is the one that is spelled.
+fn is_fault(fault: LexFault, want: &str) -> Option<bool> {
+    let (kind, line) = want.strip_prefix('!')?.split_once('@')?;
+    match fault {
+        LexFault::At {
+            line: at,
+            kind: why,
+        } => Some(why.word() == kind && line.parse::<u32>().ok()? == at),
+        LexFault::NoMemory => None,
+    }
+}
+
+/// Whether a text whose first line has this number has these tokens, or this fault.
+fn has(alloc: Global, text: &[u8], first_line: u32, want: &str) -> bool {
     if text.len() > 1_048_576 || first_line == 0 || first_line > 1_048_577 {
-        return Err("no text".into());
+        return false;
     }
     match lex(alloc, text, first_line) {
-        Ok(tokens) => Ok(tokens_text(alloc, tokens.as_slice(), first_line)?),
-        Err(LexFault::At { line, kind }) => Ok(format!(in alloc; "!{kind}@{line}")?),
-        Err(LexFault::NoMemory) => Err("no memory".into()),
+        Ok(tokens) => are_tokens(tokens.as_slice(), want, first_line),
+        Err(fault) => is_fault(fault, want) == Some(true),
     }
 }
 
-/// The first row whose tokens are others, with these, or nothing.
-fn first_wrong(alloc: Global) -> Result<String, Fail> {
-    for line in rows().lines() {
-        if line.starts_with("// ") {
-            continue;
-        }
-        let (text, want) = line.rsplit_once(" => ").ok_or("no row")?;
-        let text = text_of(alloc, text)?;
-        let found = told(alloc, text.as_slice(), 1)?;
-        if found.as_str() != want {
-            return Ok(format!(in alloc; "{line} and not {found}")?);
+/// Whether the text of a row has its tokens.
+fn holds(alloc: Global, row: &str) -> Option<bool> {
+    let (text, want) = row.rsplit_once(" => ")?;
+    let text = text_of(alloc, text)?;
+    Some(has(alloc, text.as_slice(), 1, want))
+}
+
+/// The first row that does not hold, or nothing.
+fn first_wrong(alloc: Global) -> Option<&'static str> {
+    for row in rows().lines() {
+        if !row.starts_with("// ") && holds(alloc, row) != Some(true) {
+            return Some(row);
         }
     }
-    Ok(String::new(alloc))
+    None
 }
 
 #[test]
-fn each_row_has_its_tokens(rt: HostRuntime) -> Result<(), Fail> {
-    assert_eq!(rt; first_wrong(rt.alloc())?.as_str(), "");
-    Ok(())
+fn each_row_has_its_tokens(rt: HostRuntime) {
+    assert_eq!(rt; first_wrong(rt.alloc()), None);
 }
 
 #[test]
-fn lines_are_counted_from_the_first(rt: HostRuntime) -> Result<(), Fail> {
-    assert_eq!(rt; told(rt.alloc(), b"a\n@", 7)?.as_str(), "!byte@8");
-    let last = told(rt.alloc(), b"a\nb", 1_048_577)?;
-    assert_eq!(rt; last.as_str(), "n0-1g ;1-2t n2-3g@1048578");
-    Ok(())
+fn lines_are_counted_from_the_first(rt: HostRuntime) {
+    assert!(rt; has(rt.alloc(), b"a\n@", 7, "!byte@8"));
+    assert!(rt; has(rt.alloc(), b"a\nb", 1_048_577, "n0-1g ;1-2t n2-3g@1048578"));
+}
+
+fn double_quotes_have_their_value(alloc: Global) -> Option<bool> {
+    let value = text_value(alloc, b"\"a\\n\\t\\\\\\\"#'\"").ok()?;
+    Some(value.as_bytes() == b"a\n\t\\\"#'".as_slice())
+}
+
+fn single_quotes_have_their_value(alloc: Global) -> Option<bool> {
+    let value = text_value(alloc, b"'it\\'s \\\\ #{\"'").ok()?;
+    Some(value.as_bytes() == b"it's \\ #{\"".as_slice())
 }
 
 #[test]
-fn escapes_stand_for_their_bytes(rt: HostRuntime) -> Result<(), Fail> {
-    let double = text_value(rt.alloc(), b"\"a\\n\\t\\\\\\\"#'\"")?;
-    assert_eq!(rt; double.as_bytes(), b"a\n\t\\\"#'".as_slice());
-    let single = text_value(rt.alloc(), b"'it\\'s \\\\ #{\"'")?;
-    assert_eq!(rt; single.as_bytes(), b"it's \\ #{\"".as_slice());
-    Ok(())
+fn escapes_stand_for_their_bytes(rt: HostRuntime) {
+    assert_eq!(rt; double_quotes_have_their_value(rt.alloc()), Some(true));
+    assert_eq!(rt; single_quotes_have_their_value(rt.alloc()), Some(true));
 }

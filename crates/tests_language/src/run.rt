@@ -1,6 +1,6 @@
 //! One thread: copies and lists, the limits of the options, and what is noted of steps.
 
-ghost use Rattle.std.specs.Prelude.{Some, IfOk};
+ghost use Rattle.std.specs.Prelude.{Some, IfSome};
 ghost use Rattle.vt_run.specs.Notes.{RestFits};
 
 use std::alloc::Global;
@@ -9,8 +9,8 @@ use vt_event::{BlockRef, FxId, Locals, Options, Place, ThreadId};
 use vt_frac::{Frac, Name};
 use vt_path::parse_pattern;
 use vt_run::{
-    Action, Actions, Delay, EndReason, Recorder, RenderOptions, Role, Settings, Start, Stop, Tempo,
-    Texts, Ticks, Verdict,
+    Action, Actions, Delay, EndReason, Piece, Recorder, RenderOptions, Role, Settings, Start, Stop,
+    Tempo, Texts, Ticks, Verdict,
 };
 use vt_value::{FaultKind, Integer, Symbol, Value};
 
@@ -48,54 +48,94 @@ fn may_be(line: &str) -> Option<bool> {
     Some(RenderOptions::new(workers, until, budget, 0).is_some())
 }
 
-#[test]
-fn options_have_limits(rt: HostRuntime) -> Result<(), Fail> {
-    for line in OPTIONS.lines() {
-        let (given, want) = line.rsplit_once(' ').ok_or("no row")?;
-        assert_eq!(rt; may_be(given), Some(want == "true"), "{line}");
-    }
-    Ok(())
+/// Whether the rendering options of a row may be exactly where the row says so.
+fn options_hold(row: &str) -> Option<bool> {
+    let (given, want) = row.rsplit_once(' ')?;
+    Some(may_be(given)? == (want == "true"))
 }
 
-fn place(alloc: Global) -> Result<Place, Fail> {
-    Ok(Place {
-        time: Frac::new(1, 4)?,
+/// The first row that does not hold, or nothing.
+fn wrong_options() -> Option<&'static str> {
+    for row in OPTIONS.lines() {
+        if options_hold(row) != Some(true) {
+            return Some(row);
+        }
+    }
+    None
+}
+
+#[test]
+fn options_have_limits(rt: HostRuntime) {
+    assert_eq!(rt; wrong_options(), None);
+}
+
+fn place(alloc: Global) -> Option<Place> {
+    Some(Place {
+        time: Frac::new(1, 4).ok()?,
         micro: 2,
         thread: ThreadId::of_text(alloc, 1),
         step: 1,
     })
 }
 
-/// A read, or a rest of so many quarters of a second, at a place whose time is 1/4; or nothing.
-fn action_of(alloc: Global, word: &str) -> Result<Option<Action>, Fail>
-    ensures { IfOk result (λ action. RestFits action) }
+fn read(alloc: Global) -> Option<Action>
+    ensures { IfSome result (λ action. RestFits (Some action)) }
 {
-    if word.is_empty() {
-        return Ok(None);
-    }
+    let pattern = parse_pattern(alloc, b"/cue/*").ok()?;
     let place = place(alloc)?;
-    if word == "read" {
-        let pattern = parse_pattern(alloc, b"/cue/*")?;
-        return Ok(Some(Action::Read { place, pattern }));
-    }
-    let quarters = word.parse::<i64>().map_err(|_| Fail::from("no rest"))?;
-    let seconds = Frac::new(quarters, 4)?;
+    Some(Action::Read { place, pattern })
+}
+
+/// A rest of so many quarters of a second, at a place whose time is 1/4.
+fn rest_of(alloc: Global, quarters: &str) -> Option<Action>
+    ensures { IfSome result (λ action. RestFits (Some action)) }
+{
+    let seconds = Frac::new(quarters.parse::<i64>().ok()?, 4).ok()?;
+    let place = place(alloc)?;
     match place.time.add(seconds) {
-        Ok(_) => Ok(Some(Action::Rest { place, seconds })),
-        Err(_) => Err(Fail::from("no time")),
+        Ok(_) => Some(Action::Rest { place, seconds }),
+        Err(_) => None,
     }
 }
 
-fn make_steps(alloc: Global, notes: &mut Recorder, steps: &str) -> Result<(), Fail> {
-    for step in steps.split(' ') {
-        let (cost, action) = step.split_once(':').unwrap_or((step, ""));
-        let cost = cost.parse::<u64>().map_err(|_| Fail::from("no cost"))?;
-        let action = action_of(alloc, action)?;
-        if cost >= 1 {
-            notes.step(cost, action)?;
-        }
+/// Makes a step with this action.
+fn make_acting(notes: &mut Recorder, cost: u64, action: Option<Action>) -> Option<()>
+    requires { IfSome action (λ action. RestFits (Some action)) }
+{
+    if cost == 0 {
+        return None;
     }
-    Ok(())
+    match action {
+        Some(action) => notes.step(cost, Some(action)).ok(),
+        None => None,
+    }
+}
+
+/// Makes a step: its cost, and perhaps a read or a rest.
+fn make_step(alloc: Global, notes: &mut Recorder, step: &str) -> Option<()> {
+    let Some((cost, action)) = step.split_once(':') else {
+        return make_silent(notes, step.parse::<u64>().ok()?);
+    };
+    let cost = cost.parse::<u64>().ok()?;
+    if action == "read" {
+        return make_acting(notes, cost, read(alloc));
+    }
+    make_acting(notes, cost, rest_of(alloc, action))
+}
+
+/// Makes a step without an action.
+fn make_silent(notes: &mut Recorder, cost: u64) -> Option<()> {
+    if cost == 0 {
+        return None;
+    }
+    notes.step(cost, None).ok()
+}
+
+fn make_steps(alloc: Global, notes: &mut Recorder, steps: &str) -> Option<()> {
+    for step in steps.split(' ') {
+        make_step(alloc, notes, step)?;
+    }
+    Some(())
 }
 
 fn word_of(stop: Stop) -> &'static str {
@@ -107,47 +147,64 @@ fn word_of(stop: Stop) -> &'static str {
     }
 }
 
-/// The piece that is noted of the steps of a row.
-fn piece_of(alloc: Global, line: &str) -> Result<String, Fail> {
-    let (skip, line) = line.split_once(' ').ok_or("no row")?;
-    let (limit, steps) = line.split_once(' ').ok_or("no row")?;
-    let skip = skip.parse::<u64>().map_err(|_| Fail::from("no number"))?;
-    let limit = limit.parse::<u64>().map_err(|_| Fail::from("no limit"))?;
+/// Whether the piece has this stop, this cost and so many actions.
+fn is_piece(piece: &Piece, want: &str) -> Option<bool> {
+    let (stop, counts) = want.split_once(' ')?;
+    let (cost, count) = counts.split_once(' ')?;
+    let is_count = count.parse::<usize>().ok()? == piece.actions.as_slice().len();
+    Some(word_of(piece.stop) == stop && cost.parse::<u64>().ok()? == piece.cost && is_count)
+}
+
+/// Nothing is noted yet, with the horizon 60.
+fn recorder(alloc: Global, skip: &str, limit: &str) -> Option<Recorder> {
+    let skip = skip.parse::<u64>().ok()?;
+    let limit = limit.parse::<u64>().ok()?;
     if limit < 1 || limit > 4096 {
-        return Err(Fail::from("no limit"));
+        return None;
     }
-    let mut notes = Recorder::new(alloc, skip, limit, Frac::new(60, 1)?);
+    Some(Recorder::new(alloc, skip, limit, Frac::new(60, 1).ok()?))
+}
+
+/// Whether the piece of a row is noted of the steps of the row.
+fn piece_holds(alloc: Global, row: &str) -> Option<bool> {
+    let (given, want) = row.split_once(" => ")?;
+    let (skip, given) = given.split_once(' ')?;
+    let (limit, steps) = given.split_once(' ')?;
+    let mut notes = recorder(alloc, skip, limit)?;
     make_steps(alloc, &mut notes, steps)?;
     match notes.into_piece() {
-        Some(piece) => {
-            let count = piece.actions.as_slice().len();
-            Ok(format!(in alloc; "{} {} {count}", word_of(piece.stop), piece.cost)?)
-        }
-        None => Ok(format!(in alloc; "none")?),
+        Some(piece) => is_piece(&piece, want),
+        None => Some(want == "none"),
     }
+}
+
+/// The first row that does not hold, or nothing.
+fn wrong_piece(alloc: Global) -> Option<&'static str> {
+    for row in PIECES.lines() {
+        if piece_holds(alloc, row) != Some(true) {
+            return Some(row);
+        }
+    }
+    None
 }
 
 #[test]
-fn pieces_end_at_their_stops(rt: HostRuntime) -> Result<(), Fail> {
-    for line in PIECES.lines() {
-        let (given, want) = line.split_once(" => ").ok_or("no row")?;
-        let piece = piece_of(rt.alloc(), given)?;
-        assert_eq!(rt; piece.as_str(), want, "{line}");
-    }
-    Ok(())
+fn pieces_end_at_their_stops(rt: HostRuntime) {
+    assert_eq!(rt; wrong_piece(rt.alloc()), None);
 }
 
-fn symbol(alloc: Global, name: &[u8]) -> Result<Symbol, Fail> {
-    Ok(Symbol::new(Name::of(alloc, name)?).ok_or("no symbol")?)
+fn add_default(alloc: Global, defaults: &mut Options) -> Option<()> {
+    let name = Name::of(alloc, b"amp").ok()?;
+    defaults.push((name, Value::Bool(true))).ok()
 }
 
-fn settings(alloc: Global) -> Result<Settings, Fail> {
-    let mut defaults = Options::new(alloc);
-    defaults.push((Name::of(alloc, b"amp")?, Value::Bool(true)))?;
-    Ok(Settings {
-        bpm: Tempo::new(Frac::new(97, 2)?).ok_or("no tempo")?,
-        synth: Name::of(alloc, b"tb303")?,
-        defaults,
+fn settings(alloc: Global) -> Option<Settings> {
+    let bpm = Tempo::new(Frac::new(97, 2).ok()?)?;
+    let synth = Name::of(alloc, b"tb303").ok()?;
+    Some(Settings {
+        bpm,
+        synth,
+        defaults: Options::new(alloc),
         fx: Some(FxId {
             thread: ThreadId::of_text(alloc, 1),
             number: 3,
@@ -155,81 +212,125 @@ fn settings(alloc: Global) -> Result<Settings, Fail> {
     })
 }
 
-fn start(alloc: Global) -> Result<Start, Fail> {
-    let mut locals = Locals::new(alloc);
-    locals.push((Name::of(alloc, b"x")?, Value::Nil))?;
-    Ok(Start {
-        place: place(alloc)?,
-        block: BlockRef { text: 1, block: 5 },
-        locals,
-        settings: settings(alloc)?,
-        seed: 42,
-        role: Role::Looped {
-            name: symbol(alloc, b"drums")?,
-            wait: Some(parse_pattern(alloc, b"/cue/*")?),
-            init: Value::Bool(true),
-        },
-        until: Frac::new(60, 1)?,
+fn looped(alloc: Global) -> Option<Role> {
+    let name = Symbol::new(Name::of(alloc, b"drums").ok()?)?;
+    let wait = parse_pattern(alloc, b"/cue/*").ok()?;
+    Some(Role::Looped {
+        name,
+        wait: Some(wait),
+        init: Value::Bool(true),
     })
 }
 
+/// A start without locals and defaults, of no name.
+fn plain_start(alloc: Global) -> Option<Start> {
+    let until = Frac::new(60, 1).ok()?;
+    let place = place(alloc)?;
+    let settings = settings(alloc)?;
+    Some(Start {
+        place,
+        block: BlockRef { text: 1, block: 5 },
+        locals: Locals::new(alloc),
+        settings,
+        seed: 42,
+        role: Role::Plain,
+        until,
+    })
+}
+
+fn add_local(alloc: Global, locals: &mut Locals) -> Option<()> {
+    let name = Name::of(alloc, b"x").ok()?;
+    locals.push((name, Value::Nil)).ok()
+}
+
+fn start(alloc: Global) -> Option<Start> {
+    let mut start = plain_start(alloc)?;
+    add_local(alloc, &mut start.locals)?;
+    add_default(alloc, &mut start.settings.defaults)?;
+    start.role = looped(alloc)?;
+    Some(start)
+}
+
+fn has_all(start: &Start) -> bool {
+    start.locals.as_slice().len() == 1
+        && start.settings.defaults.as_slice().len() == 1
+        && Some(start.settings.bpm.get()) == Frac::new(97, 2).ok()
+        && matches!(start.settings.fx, Some(FxId { number: 3, .. }))
+        && matches!(start.role, Role::Looped { wait: Some(_), .. })
+}
+
+fn is_copied_whole(alloc: Global) -> Option<bool> {
+    let start = start(alloc)?;
+    let copied = start.copy(alloc).ok()?;
+    Some(has_all(&copied))
+}
+
 #[test]
-fn a_start_is_copied_whole(rt: HostRuntime) -> Result<(), Fail> {
-    let copied = start(rt.alloc())?.copy(rt.alloc())?;
-    assert_eq!(rt; copied.locals.as_slice().len(), 1);
-    assert_eq!(rt; copied.settings.bpm.get(), Frac::new(97, 2)?);
-    assert!(rt; matches!(copied.settings.fx, Some(FxId { number: 3, .. })));
-    assert!(rt; matches!(copied.role, Role::Looped { wait: Some(_), .. }));
-    Ok(())
+fn a_start_is_copied_whole(rt: HostRuntime) {
+    assert_eq!(rt; is_copied_whole(rt.alloc()), Some(true));
 }
 
 /// A thread of `at` that rests for so many quarters of a second.
-fn timed(quarters: i64) -> Result<Role, Fail> {
-    Ok(Role::Timed {
-        rest: Delay::new(Frac::new(quarters, 4)?).ok_or("below 0")?,
+fn timed(quarters: i64) -> Option<Role> {
+    let rest = Delay::new(Frac::new(quarters, 4).ok()?)?;
+    Some(Role::Timed {
+        rest,
         given: Value::Nil,
         line: 7,
     })
 }
 
 /// The seconds for which a thread of `at` rests.
-fn rest_of(role: &Role) -> Option<Frac> {
+fn seconds_of(role: &Role) -> Option<Frac> {
     match role {
         Role::Timed { rest, .. } => Some(rest.get()),
         _ => None,
     }
 }
 
-#[test]
-fn a_thread_of_at_rests_for_no_time_below_0(rt: HostRuntime) -> Result<(), Fail> {
-    assert!(rt; Delay::new(Frac::new(-1, 4)?).is_none());
-    let copied = timed(0)?.copy(rt.alloc())?;
-    assert_eq!(rt; rest_of(&copied), Some(Frac::new(0, 1)?));
-    Ok(())
+/// The seconds for which the copy of a thread of `at` rests that rests for none.
+fn copied_seconds(alloc: Global) -> Option<Frac> {
+    let copied = timed(0)?.copy(alloc).ok()?;
+    seconds_of(&copied)
 }
 
 #[test]
-fn lists_keep_what_is_added(rt: HostRuntime) -> Result<(), Fail> {
-    let mut actions = Actions::new(rt.alloc());
-    actions.push(Action::End {
-        place: place(rt.alloc())?,
-        reason: EndReason::Stopped,
-    })?;
-    let mut ticks = Ticks::new(rt.alloc());
-    ticks.push(
-        Name::of(rt.alloc(), b"x")?,
-        Integer::new(3).ok_or("no number")?,
-    )?;
-    let mut texts = Texts::new(rt.alloc());
-    texts.push(
-        Frac::new(0, 1)?,
-        Verdict::Bad {
-            kind: FaultKind::Check,
-            line: 2,
-        },
-    )?;
-    assert_eq!(rt; actions.as_slice().len(), 1);
-    assert_eq!(rt; ticks.as_slice().len(), 1);
-    assert!(rt; matches!(&texts.as_slice()[0].1, Verdict::Bad { line: 2, .. }));
+fn a_thread_of_at_rests_for_no_time_below_0(rt: HostRuntime) -> Result<(), Fail> {
+    assert!(rt; Delay::new(Frac::new(-1, 4)?).is_none());
+    assert_eq!(rt; copied_seconds(rt.alloc()), Some(Frac::new(0, 1)?));
     Ok(())
+}
+
+fn count_of_actions(alloc: Global) -> Option<usize> {
+    let mut actions = Actions::new(alloc);
+    let reason = EndReason::Stopped;
+    let place = place(alloc)?;
+    actions.push(Action::End { place, reason }).ok()?;
+    Some(actions.as_slice().len())
+}
+
+fn count_of_ticks(alloc: Global) -> Option<usize> {
+    let mut ticks = Ticks::new(alloc);
+    let name = Name::of(alloc, b"x").ok()?;
+    ticks.push(name, Integer::new(3)?).ok()?;
+    Some(ticks.as_slice().len())
+}
+
+/// The line of the fault of the only text.
+fn line_of_text(alloc: Global) -> Option<u32> {
+    let mut texts = Texts::new(alloc);
+    let kind = FaultKind::Check;
+    let time = Frac::new(0, 1).ok()?;
+    texts.push(time, Verdict::Bad { kind, line: 2 }).ok()?;
+    match texts.as_slice() {
+        [(_, Verdict::Bad { line, .. })] => Some(*line),
+        _ => None,
+    }
+}
+
+#[test]
+fn lists_keep_what_is_added(rt: HostRuntime) {
+    assert_eq!(rt; count_of_actions(rt.alloc()), Some(1));
+    assert_eq!(rt; count_of_ticks(rt.alloc()), Some(1));
+    assert_eq!(rt; line_of_text(rt.alloc()), Some(2));
 }

@@ -1,14 +1,12 @@
 //! Places in their order, the fields that an event of each kind has, and inputs.
 
-use crate::text::events;
+use crate::text::{empty_score, events, is_text, push, ring_of, value_of};
 use std::alloc::Global;
 use std::collections::BTreeMap;
-use std::test::Fail;
-use vt_event::{Event, Inputs, Kind, Livings, Place, Score, ThreadId};
+use vt_event::{Event, Inputs, Kind, Place, ThreadId};
 use vt_frac::{Frac, is_symbol_name};
 use vt_path::{InnerKind, inner, parse_path};
-use vt_text::score_text;
-use vt_value::{Integer, Items, Value};
+use vt_value::Value;
 
 /// Places in their order, each by its time, micro step, thread and step.
 const PLACES: &str = "0/1 0 0 1\n\
@@ -53,7 +51,7 @@ fn time_of(text: &str) -> Option<Frac> {
 }
 
 /// The place of a line.
-fn place_of(alloc: Global, line: &str) -> Option<Place> {
+pub(crate) fn place_of(alloc: Global, line: &str) -> Option<Place> {
     let (time, rest) = line.split_once(' ')?;
     let (micro, rest) = rest.split_once(' ')?;
     let (thread, step) = rest.split_once(' ')?;
@@ -96,31 +94,41 @@ fn are_rising(alloc: Global, lines: &str, count: usize) -> Option<bool> {
 }
 
 #[test]
-fn places_stand_by_time_micro_step_thread_and_step(rt: HostRuntime) -> Result<(), Fail> {
+fn places_stand_by_time_micro_step_thread_and_step(rt: HostRuntime) {
     assert_eq!(rt; are_rising(rt.alloc(), PLACES, 13), Some(true));
-    Ok(())
 }
 
-/// The steps of the places of some lines, as a map that is sorted by place has them.
-fn sorted_steps(alloc: Global, lines: &str) -> Result<Vec<u32>, Fail> {
+fn insert(map: &mut BTreeMap<Place, u32>, place: Place) -> Option<()> {
+    let step = place.step;
+    map.insert(place, step).ok()?;
+    Some(())
+}
+
+/// Whether the steps of a map are 1 to so many, in this order.
+fn are_counted(map: &BTreeMap<Place, u32>, count: u32) -> bool {
+    let mut last: u32 = 0;
+    for (_, step) in map {
+        if *step != last.saturating_add(1) {
+            return false;
+        }
+        last = *step;
+    }
+    last == count
+}
+
+/// Whether a map that is sorted by place has the places of some lines by their steps, which are 1 to so many.
+fn are_sorted(alloc: Global, lines: &str, count: u32) -> Option<bool> {
     let mut map = BTreeMap::new(alloc);
-    for place in places(alloc, lines).ok_or("no places")? {
-        let step = place.step;
-        map.insert(place, step)?;
+    for line in lines.lines() {
+        insert(&mut map, place_of(alloc, line)?)?;
     }
-    let mut steps = Vec::new(alloc);
-    for (_, step) in &map {
-        steps.push(*step)?;
-    }
-    Ok(steps)
+    Some(are_counted(&map, count))
 }
 
 #[test]
-fn a_sorted_map_keeps_places_in_order(rt: HostRuntime) -> Result<(), Fail> {
+fn a_sorted_map_keeps_places_in_order(rt: HostRuntime) {
     let lines = "1/1 0 1 4\n1/2 1 1 3\n1/2 0 1.1 2\n1/2 0 1 1";
-    let steps = sorted_steps(rt.alloc(), lines)?;
-    assert_eq!(rt; steps.as_slice(), [1, 2, 3, 4].as_slice());
-    Ok(())
+    assert_eq!(rt; are_sorted(rt.alloc(), lines, 4), Some(true));
 }
 
 /// The word of a kind.
@@ -142,153 +150,132 @@ fn word_of(kind: Kind) -> &'static str {
     }
 }
 
-/// Adds the name of a field that is there.
-fn add_field(text: &mut String, name: &str, is_there: bool) -> Result<(), Fail> {
-    if is_there {
-        text.push_str(name)?;
+/// Whether a field is there exactly where its name is among the words.
+fn is_told(words: &str, name: &str, is_there: bool) -> bool {
+    words.split(' ').any(|word| word == name) == is_there
+}
+
+/// Whether an event is of the kind of a row, and the fields that are not empty are those that the row names.
+fn has_fields(event: &Event, row: &str) -> bool {
+    let (kind, fields) = row.split_once(' ').unwrap_or((row, ""));
+    kind == word_of(event.kind())
+        && is_told(fields, "path", event.path().is_some())
+        && is_told(fields, "name", !event.name().as_bytes().is_empty())
+        && is_told(fields, "value", !matches!(event.value(), Value::Nil))
+        && is_told(fields, "options", !event.options().as_slice().is_empty())
+        && is_told(fields, "effect", event.fx().is_some())
+        && is_told(fields, "body", event.body().is_some())
+        && is_told(fields, "line", event.line() > 0)
+}
+
+/// Whether a copy of the event has the fields of a row.
+fn copy_has_fields(alloc: Global, event: &Event, row: &str) -> bool {
+    match event.copy(alloc) {
+        Ok(copied) => has_fields(&copied, row),
+        Err(_) => false,
     }
-    Ok(())
 }
 
-/// Adds the kind of an event, and the names of its fields that are not empty.
-fn add_fields(text: &mut String, event: &Event) -> Result<(), Fail> {
-    let fields = [
-        (" path", event.path().is_some()),
-        (" name", !event.name().as_bytes().is_empty()),
-        (" value", !matches!(event.value(), Value::Nil)),
-        (" options", !event.options().as_slice().is_empty()),
-        (" effect", event.fx().is_some()),
-        (" body", event.body().is_some()),
-        (" line", event.line() > 0),
-    ];
-    text.push_str(word_of(event.kind()))?;
-    for (name, is_there) in fields {
-        add_field(text, name, is_there)?;
+/// Whether copies of these events have the fields of the rows, each of its row.
+fn have_fields(alloc: Global, events: &[Event], rows: &str) -> bool {
+    let mut left = events;
+    for row in rows.lines() {
+        match left.split_first() {
+            Some((event, rest)) if copy_has_fields(alloc, event, row) => left = rest,
+            _ => return false,
+        }
     }
-    add_field(text, "\n", true)
+    left.is_empty()
 }
 
-/// Adds the fields of a copy of an event.
-fn add_copied(alloc: Global, text: &mut String, event: &Event) -> Result<(), Fail> {
-    let copied = event.copy(alloc)?;
-    add_fields(text, &copied)
-}
+/// The fields of all events of the score.
+const FIELDS: &str = "play name value
+play name value options effect
+synth name effect
+sample value options
+sample value effect
+fx name value effect
+fx name value options
+body path body line
+defined path body
+started path
+ended path
+cue path value
+cue path value
+set path value
+log value
+log
+took path value
+fault line";
 
-/// The fields of copies of all events of the score.
-fn fields(alloc: Global) -> Result<String, Fail> {
+fn all_have_fields(alloc: Global) -> Option<bool> {
     let events = events(alloc)?;
-    let mut text = String::new(alloc);
-    for event in events.as_slice() {
-        add_copied(alloc, &mut text, event)?;
-    }
-    Ok(text)
+    Some(have_fields(alloc, events.as_slice(), FIELDS))
 }
-
-const FIELDS: &str = "play name value\n\
-    play name value options effect\n\
-    synth name effect\n\
-    sample value options\n\
-    sample value effect\n\
-    fx name value effect\n\
-    fx name value options\n\
-    body path body line\n\
-    defined path body\n\
-    started path\n\
-    ended path\n\
-    cue path value\n\
-    cue path value\n\
-    set path value\n\
-    log value\n\
-    log\n\
-    took path value\n\
-    fault line\n";
 
 #[test]
-fn each_kind_has_its_fields_and_no_others(rt: HostRuntime) -> Result<(), Fail> {
-    let fields = fields(rt.alloc())?;
-    assert_eq!(rt; fields.as_str(), FIELDS);
-    Ok(())
+fn each_kind_has_its_fields_and_no_others(rt: HostRuntime) {
+    assert_eq!(rt; all_have_fields(rt.alloc()), Some(true));
 }
 
-/// The place of the input with this number, at a whole time.
-fn input_place(alloc: Global, time: i64, number: u32) -> Result<Place, Fail> {
-    Ok(Place {
-        time: Frac::new(time, 1)?,
-        micro: 0,
-        thread: ThreadId::of_inputs(alloc),
-        step: number,
-    })
+fn given_cue(alloc: Global) -> Option<Event> {
+    let path = parse_path(alloc, b"/pad/x").ok()?;
+    let place = place_of(alloc, "1/1 0 0 1")?;
+    let value = Value::Ring(ring_of(alloc, "64")?);
+    Event::of_cue(alloc, place, path, value).ok()
 }
 
-fn whole(number: i64) -> Result<Value, Fail> {
-    Ok(Value::Whole(Integer::new(number).ok_or("too large")?))
-}
-
-fn given_cue(alloc: Global) -> Result<Event, Fail> {
-    let mut values = Items::new(alloc);
-    values.push(whole(64)?)?;
-    let at = input_place(alloc, 1, 1)?;
-    let path = parse_path(alloc, b"/pad/x")?;
-    Ok(Event::of_cue(alloc, at, path, Value::Ring(values))?)
-}
-
-fn given_set(alloc: Global) -> Result<Event, Fail> {
-    let at = input_place(alloc, 1, 2)?;
-    let path = parse_path(alloc, b"/set/x")?;
-    Ok(Event::of_set(alloc, at, path, whole(5)?)?)
+fn given_set(alloc: Global) -> Option<Event> {
+    let path = parse_path(alloc, b"/set/x").ok()?;
+    let place = place_of(alloc, "1/1 0 0 2")?;
+    let value = value_of(alloc, "5")?;
+    Event::of_set(alloc, place, path, value).ok()
 }
 
 /// A stop of the live loop of this name.
-fn given_stop(alloc: Global, name: &[u8]) -> Result<Event, Fail> {
-    if is_symbol_name(name) {
-        let at = input_place(alloc, 2, 3)?;
-        let path = inner(alloc, InnerKind::Stop, name)?;
-        Ok(Event::of_ended(alloc, at, path)?)
-    } else {
-        Err(Fail::from("no name of a symbol"))
+fn given_stop(alloc: Global, name: &[u8]) -> Option<Event> {
+    if !is_symbol_name(name) {
+        return None;
     }
+    let path = inner(alloc, InnerKind::Stop, name).ok()?;
+    let place = place_of(alloc, "2/1 0 0 3")?;
+    Event::of_ended(alloc, place, path).ok()
 }
 
-/// An input of each sort.
-fn inputs(alloc: Global) -> Result<Inputs, Fail> {
-    let mut inputs = Inputs::new(alloc);
-    inputs.push(given_cue(alloc)?)?;
-    inputs.push(given_set(alloc)?)?;
-    inputs.push(given_stop(alloc, b"a")?)?;
-    Ok(inputs)
+/// Adds an input of each sort.
+fn add_inputs(alloc: Global, inputs: &mut Inputs) -> Option<()> {
+    push(inputs, given_cue(alloc))?;
+    push(inputs, given_set(alloc))?;
+    push(inputs, given_stop(alloc, b"a"))
 }
 
-/// The text of a score in which the inputs alone happened.
-fn score_of_inputs(alloc: Global) -> Result<Vec<u8>, Fail> {
-    let score = Score {
-        events: inputs(alloc)?,
-        living: Livings::new(alloc),
-    };
-    Ok(score_text(alloc, &score)?)
+/// Whether the score in which the inputs alone happened has this text.
+fn inputs_are_text(alloc: Global, want: &str) -> Option<bool> {
+    let mut score = empty_score(alloc);
+    add_inputs(alloc, &mut score.events)?;
+    Some(is_text(alloc, &score, want))
 }
 
 #[test]
-fn a_score_shows_given_cues_and_sets_and_no_stop(rt: HostRuntime) -> Result<(), Fail> {
-    let text = score_of_inputs(rt.alloc())?;
+fn a_score_shows_given_cues_and_sets_and_no_stop(rt: HostRuntime) {
     let shown = "1 0 cue /pad/x 64\n1 0 set /set/x 5\nend 2\n";
-    assert_eq!(rt; text.as_slice(), shown.as_bytes());
-    Ok(())
+    assert_eq!(rt; inputs_are_text(rt.alloc(), shown), Some(true));
 }
 
-/// The kind of a stop, its fields, and its path as it is written.
-fn stop_text(alloc: Global) -> Result<String, Fail> {
-    let stop = given_stop(alloc, b"a")?;
+/// Whether the path of an event is written so.
+fn has_path(alloc: Global, event: &Event, want: &str) -> Option<bool> {
     let mut path = Vec::new(alloc);
-    stop.path().ok_or("no path")?.write(alloc, &mut path)?;
-    let mut text = String::new(alloc);
-    add_copied(alloc, &mut text, &stop)?;
-    text.push_str(String::from_utf8(path)?.as_str())?;
-    Ok(text)
+    event.path()?.write(alloc, &mut path).ok()?;
+    Some(path.as_slice() == want.as_bytes())
+}
+
+/// Whether a stop is an end with a path, which is written so.
+fn stop_is_end(alloc: Global, want: &str) -> Option<bool> {
+    let stop = given_stop(alloc, b"a")?;
+    Some(copy_has_fields(alloc, &stop, "ended path") && has_path(alloc, &stop, want)?)
 }
 
 #[test]
-fn a_stop_is_an_end_at_its_own_path(rt: HostRuntime) -> Result<(), Fail> {
-    let text = stop_text(rt.alloc())?;
-    assert_eq!(rt; text.as_str(), "ended path\n/!stop/a");
-    Ok(())
+fn a_stop_is_an_end_at_its_own_path(rt: HostRuntime) {
+    assert_eq!(rt; stop_is_end(rt.alloc(), "/!stop/a"), Some(true));
 }

@@ -1,8 +1,10 @@
-//! Tests of ends, events and score texts over the public calls: one file a library.
+//! Tests of ends, events, score texts and generated sessions over the public calls: one file a library.
 #![tactic(auto)]
 
 #[cfg(test)]
 mod event;
+#[cfg(test)]
+mod generated;
 #[cfg(test)]
 mod io;
 #[cfg(test)]

@@ -1,247 +1,385 @@
 //! Lines and scores, with answers written by hand.
 
-ghost use Rattle.std.specs.Prelude.{IfOk, IsTrue};
-ghost use Rattle.vt_event.specs.Kinds.{is_note, is_sample_name};
+ghost use Rattle.std.specs.Prelude.{◌≡◌};
+ghost use Rattle.vt_event.specs.Kinds.{is_sample_name};
 
+use crate::event::place_of;
 use std::alloc::Global;
-use std::test::Fail;
 use vt_event::{
     BlockRef, Event, Events, FxId, Living, LivingState, Livings, Locals, Options, Place, Score,
     ThreadId,
 };
 use vt_frac::{Frac, Name};
-use vt_path::{parse_path, parse_pattern};
+use vt_path::{Path, parse_path, parse_pattern};
 use vt_text::{line, score_text};
 use vt_value::{FaultKind, Integer, Items, Symbol, Value};
 
-/// A place of the thread 1.2 at a time and a micro step.
-fn place(alloc: Global, (numer, denom, micro): (i64, i64, u32)) -> Result<Place, Fail> {
-    Ok(Place {
-        time: Frac::new(numer, denom)?,
-        micro,
-        thread: ThreadId::of_text(alloc, 1).child(alloc, 2)?,
-        step: 3,
-    })
+/// A place of the thread 1.2.
+const HERE: &str = "5/2 1 1.2 3";
+
+fn name_of(alloc: Global, text: &str) -> Option<Name> {
+    Name::of(alloc, text.as_bytes()).ok()
 }
 
-fn here(alloc: Global) -> Result<Place, Fail> {
-    place(alloc, (5, 2, 1))
+fn symbol_of(alloc: Global, name: &str) -> Option<Value> {
+    Some(Value::Sym(Symbol::new(name_of(alloc, name)?)?))
 }
 
-fn whole(number: i64) -> Result<Value, Fail>
-    ensures { IfOk result (λ value. IsTrue (is_note value)) }
-{
-    Ok(Value::Whole(Integer::new(number).ok_or("too large")?))
+fn part_of(n: &str, d: &str) -> Option<Value> {
+    let fraction = Frac::new(n.parse::<i64>().ok()?, d.parse::<i64>().ok()?);
+    Some(Value::Part(fraction.ok()?))
 }
 
-fn text(alloc: Global, bytes: &[u8]) -> Result<Value, Fail>
-    ensures { IfOk result (λ value. IsTrue (is_sample_name value)) }
-{
-    Ok(Value::Text(Name::of(alloc, bytes)?))
+/// The value of a text, where the only ring is `[]`.
+pub(crate) fn value_of(alloc: Global, text: &str) -> Option<Value> {
+    if text == "nil" {
+        return Some(Value::Nil);
+    }
+    if text == "[]" {
+        return Some(Value::Ring(Items::new(alloc)));
+    }
+    if let Ok(truth) = text.parse::<bool>() {
+        return Some(Value::Bool(truth));
+    }
+    if let Some(name) = text.strip_prefix(':') {
+        return symbol_of(alloc, name);
+    }
+    if let Some(bytes) = text.strip_prefix('"') {
+        return Some(Value::Text(name_of(alloc, bytes)?));
+    }
+    if let Some((n, d)) = text.split_once('/') {
+        return part_of(n, d);
+    }
+    Some(Value::Whole(Integer::new(text.parse::<i64>().ok()?)?))
 }
 
-fn symbol(alloc: Global, bytes: &[u8]) -> Result<Value, Fail>
-    ensures { IfOk result (λ value. IsTrue (is_sample_name value)) }
-{
-    let symbol = Symbol::new(Name::of(alloc, bytes)?).ok_or("no symbol")?;
-    Ok(Value::Sym(symbol))
+/// Adds the values of some texts with `|` between them.
+fn add_values(alloc: Global, items: &mut Items, texts: &str) -> Option<()> {
+    for text in texts.split('|') {
+        items.push(value_of(alloc, text)?).ok()?;
+    }
+    Some(())
 }
 
-fn option(alloc: Global, name: &[u8], value: Value) -> Result<(Name, Value), Fail> {
-    Ok((Name::of(alloc, name)?, value))
+pub(crate) fn ring_of(alloc: Global, texts: &str) -> Option<Items> {
+    let mut items = Items::new(alloc);
+    add_values(alloc, &mut items, texts)?;
+    Some(items)
 }
 
-/// Two options.
-fn options(alloc: Global) -> Result<Options, Fail> {
-    let mut options = Options::new(alloc);
-    options.push(option(alloc, b"amp", Value::Part(Frac::new(1, 2)?))?)?;
-    options.push(option(alloc, b"pan", whole(-1)?)?)?;
-    Ok(options)
+/// A value of every form. A text has one quote, before its bytes.
+const FORMS: &str =
+    "nil|true|false|-9223372036854775807|-2/4|6/3|:bd_haus|\"\\\"\n\t\x00\x1f\x7fé ~";
+
+/// A ring that holds a value of every form, nil and a ring among them.
+fn ring(alloc: Global) -> Option<Value> {
+    let mut items = ring_of(alloc, FORMS)?;
+    add_ring(alloc, &mut items, "nil|[]")?;
+    Some(Value::Ring(items))
+}
+
+fn add_ring(alloc: Global, items: &mut Items, texts: &str) -> Option<()> {
+    items.push(Value::Ring(ring_of(alloc, texts)?)).ok()
+}
+
+/// What sounds, without its kind.
+#[derive(Drop)]
+struct Sound {
+    place: Place,
+    name: Name,
+    value: Value,
+    options: Options,
+    fx: Option<FxId>,
+}
+
+fn add_option(alloc: Global, options: &mut Options, name: &str, value: Value) -> Option<()> {
+    let name = name_of(alloc, name)?;
+    options.push((name, value)).ok()
+}
+
+/// Adds two options.
+fn add_options(alloc: Global, options: &mut Options) -> Option<()> {
+    add_option(alloc, options, "amp", part_of("1", "2")?)?;
+    add_option(alloc, options, "pan", value_of(alloc, "-1")?)
+}
+
+fn thread_of(alloc: Global) -> Option<ThreadId> {
+    ThreadId::of_text(alloc, 1).child(alloc, 2).ok()
 }
 
 /// Effect 7 of the thread 1.2.
-fn effect(alloc: Global) -> Result<Option<FxId>, Fail> {
-    let thread = ThreadId::of_text(alloc, 1).child(alloc, 2)?;
-    Ok(Some(FxId { thread, number: 7 }))
+fn effect(alloc: Global) -> Option<FxId> {
+    let thread = thread_of(alloc)?;
+    Some(FxId { thread, number: 7 })
 }
 
-/// A ring that holds a value of every form, nil and a ring among them.
-fn ring(alloc: Global) -> Result<Value, Fail> {
-    let mut inner = Items::new(alloc);
-    inner.push(Value::Nil)?;
-    inner.push(Value::Ring(Items::new(alloc)))?;
-    let mut items = Items::new(alloc);
-    items.push(Value::Nil)?;
-    items.push(Value::Bool(true))?;
-    items.push(Value::Bool(false))?;
-    items.push(whole(-9223372036854775807)?)?;
-    items.push(Value::Part(Frac::new(-2, 4)?))?;
-    items.push(Value::Part(Frac::new(6, 3)?))?;
-    items.push(symbol(alloc, b"bd_haus")?)?;
-    items.push(text(alloc, b"\\\"\n\t\x00\x1f\x7f\xc3\xa9 ~")?)?;
-    items.push(Value::Ring(inner))?;
-    Ok(Value::Ring(items))
+/// What sounds at a place, without options and effect.
+fn bare(alloc: Global, place: &str, name: &str, value: &str) -> Option<Sound> {
+    let value = value_of(alloc, value)?;
+    let name = name_of(alloc, name)?;
+    let place = place_of(alloc, place)?;
+    Some(Sound {
+        place,
+        name,
+        value,
+        options: Options::new(alloc),
+        fx: None,
+    })
 }
 
-fn plain_note(alloc: Global) -> Result<Event, Fail> {
-    let at = place(alloc, (0, 1, 0))?;
-    let beep = Name::of(alloc, b"beep")?;
-    Ok(Event::of_play(at, beep, whole(60)?, Options::new(alloc), None))
+/// Adds the two options and the effect where the words say so.
+fn add_setting(alloc: Global, sound: &mut Sound, words: &str) -> Option<()> {
+    if words.starts_with("amp pan") {
+        add_options(alloc, &mut sound.options)?;
+    }
+    if words.ends_with("in") {
+        sound.fx = Some(effect(alloc)?);
+    }
+    Some(())
 }
 
-fn full_note(alloc: Global) -> Result<Event, Fail> {
-    let at = here(alloc)?;
-    let saw = Name::of(alloc, b"saw")?;
-    let note = whole(-7)?;
-    let options = options(alloc)?;
-    Ok(Event::of_play(at, saw, note, options, effect(alloc)?))
+fn play_of(sound: Sound) -> Option<Event> {
+    if sound.value.number().is_none() {
+        return None;
+    }
+    let Sound {
+        place,
+        name,
+        value,
+        options,
+        fx,
+    } = sound;
+    Some(Event::of_play(place, name, value, options, fx))
 }
 
-fn synth(alloc: Global) -> Result<Event, Fail> {
-    let at = here(alloc)?;
-    let beep = Name::of(alloc, b"beep")?;
-    Ok(Event::of_synth(at, beep, Options::new(alloc), effect(alloc)?))
+fn synth_of(sound: Sound) -> Option<Event> {
+    let Sound {
+        place,
+        name,
+        value: _,
+        options,
+        fx,
+    } = sound;
+    Some(Event::of_synth(place, name, options, fx))
 }
 
-fn sample_of_symbol(alloc: Global) -> Result<Event, Fail> {
-    let at = here(alloc)?;
-    let drum = symbol(alloc, b"bd_haus")?;
-    Ok(Event::of_sample(alloc, at, drum, options(alloc)?, None)?)
+/// Whether a value names a sample.
+fn names_sample(value: &Value) -> bool
+    ensures { result ≡ is_sample_name value.now }
+{
+    match value {
+        Value::Sym(_) => true,
+        Value::Text(_) => true,
+        Value::Nil => false,
+        Value::Bool(_) => false,
+        Value::Whole(_) => false,
+        Value::Part(_) => false,
+        Value::Ring(_) => false,
+    }
 }
 
-fn sample_of_text(alloc: Global) -> Result<Event, Fail> {
-    let at = here(alloc)?;
-    let drum = text(alloc, b"a \"b\"")?;
-    let fx = effect(alloc)?;
-    Ok(Event::of_sample(alloc, at, drum, Options::new(alloc), fx)?)
+fn sample_of(alloc: Global, sound: Sound) -> Option<Event> {
+    if !names_sample(&sound.value) {
+        return None;
+    }
+    let Sound {
+        place,
+        name: _,
+        value,
+        options,
+        fx,
+    } = sound;
+    Event::of_sample(alloc, place, value, options, fx).ok()
 }
 
-fn effect_in_effect(alloc: Global) -> Result<Event, Fail> {
-    let at = here(alloc)?;
-    let echo = Name::of(alloc, b"echo")?;
-    Ok(Event::of_fx(at, echo, 8, Options::new(alloc), effect(alloc)?))
+fn fx_of(sound: Sound, number: u32) -> Option<Event> {
+    let Sound {
+        place,
+        name,
+        value: _,
+        options,
+        fx,
+    } = sound;
+    Some(Event::of_fx(place, name, number, options, fx))
 }
 
-fn effect_with_options(alloc: Global) -> Result<Event, Fail> {
-    let at = here(alloc)?;
-    let echo = Name::of(alloc, b"echo")?;
-    Ok(Event::of_fx(at, echo, 4294967295, options(alloc)?, None))
+/// The event of a kind.
+fn sounding(alloc: Global, kind: &str, number: u32, sound: Sound) -> Option<Event> {
+    if kind == "play" {
+        return play_of(sound);
+    }
+    if kind == "synth" {
+        return synth_of(sound);
+    }
+    if kind == "sample" {
+        return sample_of(alloc, sound);
+    }
+    fx_of(sound, number)
 }
 
-/// What sounds, with and without options, effect and micro step.
-fn sounds(alloc: Global, events: &mut Events) -> Result<(), Fail> {
-    events.push(plain_note(alloc)?)?;
-    events.push(full_note(alloc)?)?;
-    events.push(synth(alloc)?)?;
-    events.push(sample_of_symbol(alloc)?)?;
-    events.push(sample_of_text(alloc)?)?;
-    events.push(effect_in_effect(alloc)?)?;
-    events.push(effect_with_options(alloc)?)?;
-    Ok(())
+/// The event of a row.
+fn sound_of(alloc: Global, row: &str) -> Option<Event> {
+    let (kind, rest) = row.split_once("; ")?;
+    let (place, rest) = rest.split_once("; ")?;
+    let (name, rest) = rest.split_once("; ")?;
+    let (value, words) = rest.split_once("; ")?;
+    let number = value.parse::<u32>().unwrap_or(0);
+    let mut sound = bare(alloc, place, name, value)?;
+    add_setting(alloc, &mut sound, words)?;
+    sounding(alloc, kind, number, sound)
 }
 
-fn cue(alloc: Global, value: Value) -> Result<Event, Fail> {
-    let at = here(alloc)?;
-    let path = parse_path(alloc, b"/cue/a")?;
-    Ok(Event::of_cue(alloc, at, path, value)?)
+/// What sounds, with and without options, effect and micro step: its kind, place, name and value, and words for the two
+/// options and for the effect.
+const SOUNDS: &str = "\
+play; 0/1 0 1.2 3; beep; 60; -
+play; 5/2 1 1.2 3; saw; -7; amp pan in
+synth; 5/2 1 1.2 3; beep; nil; in
+sample; 5/2 1 1.2 3; -; :bd_haus; amp pan
+sample; 5/2 1 1.2 3; -; \"a \"b\"; in
+fx; 5/2 1 1.2 3; echo; 8; in
+fx; 5/2 1 1.2 3; echo; 4294967295; amp pan
+";
+
+pub(crate) fn push(events: &mut Events, event: Option<Event>) -> Option<()> {
+    events.push(event?).ok()
 }
 
-fn set(alloc: Global, value: Value) -> Result<Event, Fail> {
-    let at = here(alloc)?;
-    let path = parse_path(alloc, b"/set/x")?;
-    Ok(Event::of_set(alloc, at, path, value)?)
+fn add_sounds(alloc: Global, events: &mut Events) -> Option<()> {
+    for row in SOUNDS.lines() {
+        push(events, sound_of(alloc, row))?;
+    }
+    Some(())
 }
 
-fn log(alloc: Global, value: Value) -> Result<Event, Fail> {
-    Ok(Event::of_log(alloc, here(alloc)?, value)?)
+/// A place and a path.
+#[derive(Drop)]
+struct Sign {
+    place: Place,
+    path: Path,
 }
 
-fn took(alloc: Global) -> Result<Event, Fail> {
-    let at = here(alloc)?;
-    let path = parse_path(alloc, b"/a/b-c.d")?;
-    Ok(Event::of_took(alloc, at, path, whole(3)?)?)
+fn sign_of(alloc: Global, path: &str) -> Option<Sign> {
+    let path = parse_path(alloc, path.as_bytes()).ok()?;
+    let place = place_of(alloc, HERE)?;
+    Some(Sign { place, path })
 }
 
-fn fault(alloc: Global) -> Result<Event, Fail> {
-    let at = here(alloc)?;
-    Ok(Event::of_fault(alloc, at, FaultKind::NoSleep, 4294967295)?)
+/// The ring that holds a value of every form, or the value of a text.
+fn content_of(alloc: Global, text: &str) -> Option<Value> {
+    if text == "ring" {
+        return ring(alloc);
+    }
+    value_of(alloc, text)
+}
+
+fn cue(alloc: Global, content: &str) -> Option<Event> {
+    let Sign { place, path } = sign_of(alloc, "/cue/a")?;
+    let value = content_of(alloc, content)?;
+    Event::of_cue(alloc, place, path, value).ok()
+}
+
+fn set(alloc: Global, content: &str) -> Option<Event> {
+    let Sign { place, path } = sign_of(alloc, "/set/x")?;
+    let value = content_of(alloc, content)?;
+    Event::of_set(alloc, place, path, value).ok()
+}
+
+fn took(alloc: Global, content: &str) -> Option<Event> {
+    let Sign { place, path } = sign_of(alloc, "/a/b-c.d")?;
+    let value = content_of(alloc, content)?;
+    Event::of_took(alloc, place, path, value).ok()
+}
+
+fn log(alloc: Global, content: &str) -> Option<Event> {
+    let place = place_of(alloc, HERE)?;
+    let value = content_of(alloc, content)?;
+    Event::of_log(alloc, place, value).ok()
+}
+
+fn fault(alloc: Global) -> Option<Event> {
+    let place = place_of(alloc, HERE)?;
+    Event::of_fault(alloc, place, FaultKind::NoSleep, 4294967295).ok()
 }
 
 /// Cues, sets, logs and takes, of rings and of other values, and a fault.
-fn signs(alloc: Global, events: &mut Events) -> Result<(), Fail> {
-    events.push(cue(alloc, ring(alloc)?)?)?;
-    events.push(cue(alloc, Value::Ring(Items::new(alloc)))?)?;
-    events.push(set(alloc, ring(alloc)?)?)?;
-    events.push(log(alloc, ring(alloc)?)?)?;
-    events.push(log(alloc, Value::Nil)?)?;
-    events.push(took(alloc)?)?;
-    events.push(fault(alloc)?)?;
-    Ok(())
+fn add_signs(alloc: Global, events: &mut Events) -> Option<()> {
+    push(events, cue(alloc, "ring"))?;
+    push(events, cue(alloc, "[]"))?;
+    push(events, set(alloc, "ring"))?;
+    push(events, log(alloc, "ring"))?;
+    push(events, log(alloc, "nil"))?;
+    push(events, took(alloc, "3"))?;
+    push(events, fault(alloc))
 }
 
 /// The block that inner events refer to.
 const BLOCK: BlockRef = BlockRef { text: 1, block: 1 };
 
-fn body(alloc: Global) -> Result<Event, Fail> {
-    let at = here(alloc)?;
-    let path = parse_path(alloc, b"/a")?;
-    let locals = Locals::new(alloc);
-    Ok(Event::of_body(alloc, at, path, BLOCK, locals, 9)?)
+fn body(alloc: Global) -> Option<Event> {
+    let Sign { place, path } = sign_of(alloc, "/a")?;
+    Event::of_body(alloc, place, path, BLOCK, Locals::new(alloc), 9).ok()
 }
 
-fn defined(alloc: Global) -> Result<Event, Fail> {
-    let at = here(alloc)?;
-    let path = parse_path(alloc, b"/a")?;
-    let locals = Locals::new(alloc);
-    Ok(Event::of_defined(alloc, at, path, BLOCK, locals)?)
+fn defined(alloc: Global) -> Option<Event> {
+    let Sign { place, path } = sign_of(alloc, "/a")?;
+    Event::of_defined(alloc, place, path, BLOCK, Locals::new(alloc)).ok()
 }
 
-fn started(alloc: Global) -> Result<Event, Fail> {
-    let at = here(alloc)?;
-    let path = parse_path(alloc, b"/a")?;
-    Ok(Event::of_started(alloc, at, path)?)
+fn started(alloc: Global) -> Option<Event> {
+    let Sign { place, path } = sign_of(alloc, "/a")?;
+    Event::of_started(alloc, place, path).ok()
 }
 
-fn ended(alloc: Global) -> Result<Event, Fail> {
-    let at = here(alloc)?;
-    let path = parse_path(alloc, b"/a")?;
-    Ok(Event::of_ended(alloc, at, path)?)
+fn ended(alloc: Global) -> Option<Event> {
+    let Sign { place, path } = sign_of(alloc, "/a")?;
+    Event::of_ended(alloc, place, path).ok()
 }
 
 /// Inner events, which no score shows.
-fn inner_events(alloc: Global, events: &mut Events) -> Result<(), Fail> {
-    events.push(body(alloc)?)?;
-    events.push(defined(alloc)?)?;
-    events.push(started(alloc)?)?;
-    events.push(ended(alloc)?)?;
-    Ok(())
+fn add_inner_events(alloc: Global, events: &mut Events) -> Option<()> {
+    push(events, body(alloc))?;
+    push(events, defined(alloc))?;
+    push(events, started(alloc))?;
+    push(events, ended(alloc))
 }
 
-/// Two threads that go on living.
-fn living(alloc: Global) -> Result<Livings, Fail> {
-    let mut living = Livings::new(alloc);
-    living.push(Living {
-        thread: ThreadId::of_text(alloc, 1),
-        state: LivingState::Asleep(Frac::new(121, 2)?),
-    })?;
-    living.push(Living {
-        thread: ThreadId::of_text(alloc, 1).child(alloc, 10)?,
-        state: LivingState::Waiting(parse_pattern(alloc, b"/**/a?[b-d]{e,f}*")?),
-    })?;
-    living.push(Living {
-        thread: ThreadId::of_text(alloc, 2),
-        state: LivingState::Waiting(parse_pattern(alloc, b"/{cue,set,live_loop}/a")?),
-    })?;
-    Ok(living)
+fn add_living(livings: &mut Livings, thread: ThreadId, state: LivingState) -> Option<()> {
+    livings.push(Living { thread, state }).ok()
+}
+
+/// A thread that waits for an event at a path of this pattern.
+fn add_waiting(
+    alloc: Global,
+    livings: &mut Livings,
+    thread: ThreadId,
+    pattern: &str,
+) -> Option<()> {
+    let pattern = parse_pattern(alloc, pattern.as_bytes()).ok()?;
+    add_living(livings, thread, LivingState::Waiting(pattern))
+}
+
+/// Three threads that go on living.
+fn add_livings(alloc: Global, livings: &mut Livings) -> Option<()> {
+    let asleep = LivingState::Asleep(Frac::new(121, 2).ok()?);
+    add_living(livings, ThreadId::of_text(alloc, 1), asleep)?;
+    let child = ThreadId::of_text(alloc, 1).child(alloc, 10).ok()?;
+    add_waiting(alloc, livings, child, "/**/a?[b-d]{e,f}*")?;
+    let second = ThreadId::of_text(alloc, 2);
+    add_waiting(alloc, livings, second, "/{cue,set,live_loop}/a")
 }
 
 /// All of them, one after another.
-pub fn events(alloc: Global) -> Result<Events, Fail> {
+pub(crate) fn events(alloc: Global) -> Option<Events> {
     let mut events = Events::new(alloc);
-    sounds(alloc, &mut events)?;
-    inner_events(alloc, &mut events)?;
-    signs(alloc, &mut events)?;
-    Ok(events)
+    add_events(alloc, &mut events)?;
+    Some(events)
+}
+
+fn add_events(alloc: Global, events: &mut Events) -> Option<()> {
+    add_sounds(alloc, events)?;
+    add_inner_events(alloc, events)?;
+    add_signs(alloc, events)
 }
 
 /// Its text.
@@ -264,51 +402,64 @@ const TEXT: &str = "0 1.2 play :beep 60\n\
     waiting 2 /{cue,set,live_loop}/a\n\
     end 14\n";
 
-/// The text of a score of all events and of the threads that go on living.
-fn score_of_all(alloc: Global) -> Result<Vec<u8>, Fail> {
-    let score = Score {
-        events: events(alloc)?,
-        living: living(alloc)?,
-    };
-    Ok(score_text(alloc, &score)?)
-}
-
-#[test]
-fn each_kind_and_each_value_has_its_form(rt: HostRuntime) -> Result<(), Fail> {
-    let text = score_of_all(rt.alloc())?;
-    assert_eq!(rt; text.as_slice(), TEXT.as_bytes());
-    Ok(())
-}
-
-/// The line of what is logged at a late micro step.
-fn late_line(alloc: Global) -> Result<Vec<u8>, Fail> {
-    let at = place(alloc, (3, 1, 4294967295))?;
-    let event = Event::of_log(alloc, at, Value::Bool(true))?;
-    if event.kind().is_shown() {
-        return Ok(line(alloc, &event)?);
+/// Whether this is the text of a score.
+pub(crate) fn is_text(alloc: Global, score: &Score, want: &str) -> bool {
+    match score_text(alloc, score) {
+        Ok(text) => text.as_slice() == want.as_bytes(),
+        Err(_) => false,
     }
-    Err("not shown")?
 }
 
-#[test]
-fn a_line_has_no_newline(rt: HostRuntime) -> Result<(), Fail> {
-    let line = late_line(rt.alloc())?;
-    assert_eq!(rt; line.as_slice(), b"3+4294967295 1.2 log true".as_slice());
-    Ok(())
-}
-
-/// The text of a score in which nothing happened.
-fn empty_score(alloc: Global) -> Result<Vec<u8>, Fail> {
-    let score = Score {
+/// A score in which nothing happened.
+pub(crate) fn empty_score(alloc: Global) -> Score {
+    Score {
         events: Events::new(alloc),
         living: Livings::new(alloc),
-    };
-    Ok(score_text(alloc, &score)?)
+    }
+}
+
+/// Whether the score of all events and of the threads that go on living has this text.
+fn all_is_text(alloc: Global, want: &str) -> Option<bool> {
+    let mut score = empty_score(alloc);
+    add_events(alloc, &mut score.events)?;
+    add_livings(alloc, &mut score.living)?;
+    Some(is_text(alloc, &score, want))
 }
 
 #[test]
-fn an_empty_score_is_its_end(rt: HostRuntime) -> Result<(), Fail> {
-    let text = empty_score(rt.alloc())?;
-    assert_eq!(rt; text.as_slice(), b"end 0\n".as_slice());
-    Ok(())
+fn each_kind_and_each_value_has_its_form(rt: HostRuntime) {
+    assert_eq!(rt; all_is_text(rt.alloc(), TEXT), Some(true));
+}
+
+#[test]
+fn an_empty_score_is_its_end(rt: HostRuntime) {
+    assert!(rt; is_text(rt.alloc(), &empty_score(rt.alloc()), "end 0\n"));
+}
+
+/// What is logged at a late micro step.
+fn late_event(alloc: Global) -> Option<Event> {
+    let place = place_of(alloc, "3/1 4294967295 1.2 3")?;
+    Event::of_log(alloc, place, Value::Bool(true)).ok()
+}
+
+/// Whether this is the line of the event.
+fn is_line(alloc: Global, event: &Event, want: &str) -> Option<bool> {
+    if !event.kind().is_shown() {
+        return None;
+    }
+    let line = line(alloc, event).ok()?;
+    Some(line.as_slice() == want.as_bytes())
+}
+
+fn late_is_line(alloc: Global, want: &str) -> Option<bool> {
+    let event = late_event(alloc)?;
+    is_line(alloc, &event, want)
+}
+
+#[test]
+fn a_line_has_no_newline(rt: HostRuntime) {
+    assert_eq!(rt;
+        late_is_line(rt.alloc(), "3+4294967295 1.2 log true"),
+        Some(true)
+    );
 }

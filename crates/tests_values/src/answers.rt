@@ -1,57 +1,60 @@
 //! What a call gives, as the rows spell it: the text of a value, or the word of a fault.
 
-use crate::prim;
 use std::alloc::Global;
-use std::test::Fail;
 use vt_value::{Value, ValueFault};
 
-/// A row as it is answered.
-fn answered(alloc: Global, line: &str) -> Result<String, Fail> {
-    let (left, _) = line.split_once(" => ").ok_or("no row")?;
-    let right = prim::called(alloc, line)?;
-    Ok(format!(in alloc; "{left} => {right}\n")?)
-}
-
-/// Each row as it is answered.
-pub(crate) fn answers(alloc: Global, rows: &str) -> Result<String, Fail> {
-    let mut text = String::new(alloc);
-    for line in rows.lines() {
-        text.push_str(answered(alloc, line)?.as_str())?;
+/// Whether an outcome is the one that a row has.
+pub(crate) fn is_told(alloc: Global, outcome: &Result<Value, ValueFault>, want: &str) -> bool {
+    match outcome {
+        Ok(value) => is_spelled(alloc, value, want),
+        Err(ValueFault::Fault(kind)) => kind.word() == want,
+        Err(ValueFault::NoMemory) => false,
     }
-    Ok(text)
 }
 
-/// Appends the text of a value, that of a fraction always with its denominator.
-fn write_item(alloc: Global, text: &mut Vec<u8>, value: &Value) -> Result<(), Fail> {
-    value.write(alloc, text)?;
-    if let Value::Part(fraction) = value
-        && fraction.denom() == 1
-    {
-        text.extend_from_slice(b"/1")?;
+/// Whether a value is the one that a row has.
+fn is_spelled(alloc: Global, value: &Value, want: &str) -> bool {
+    let mut text = Vec::new(alloc);
+    write_value(alloc, &mut text, value).is_some() && text.as_slice() == want.as_bytes()
+}
+
+fn write_value(alloc: Global, text: &mut Vec<u8>, value: &Value) -> Option<()> {
+    match value {
+        Value::Ring(items) => write_items(alloc, text, items.as_slice()),
+        _ => write_item(alloc, text, value),
     }
-    Ok(())
 }
 
-fn write_items(alloc: Global, text: &mut Vec<u8>, items: &[Value]) -> Result<(), Fail> {
-    text.push(b'[')?;
+fn write_items(alloc: Global, text: &mut Vec<u8>, items: &[Value]) -> Option<()> {
+    text.push(b'[').ok()?;
     for (i, item) in items.iter().enumerate() {
         if i > 0 {
-            text.extend_from_slice(b", ")?;
+            text.extend_from_slice(b", ").ok()?;
         }
         write_item(alloc, text, item)?;
     }
-    text.push(b']')?;
-    Ok(())
+    text.push(b']').ok()
 }
 
-/// The text of what a call gives.
-pub(crate) fn answer(alloc: Global, outcome: &Result<Value, ValueFault>) -> Result<String, Fail> {
-    let mut text = Vec::new(alloc);
-    match outcome {
-        Ok(Value::Ring(items)) => write_items(alloc, &mut text, items.as_slice())?,
-        Ok(value) => write_item(alloc, &mut text, value)?,
-        Err(ValueFault::Fault(kind)) => text.extend_from_slice(kind.word().as_bytes())?,
-        Err(ValueFault::NoMemory) => text.extend_from_slice(b"no memory")?,
+/// Appends the text of a value, that of a fraction always with its denominator.
+fn write_item(alloc: Global, text: &mut Vec<u8>, value: &Value) -> Option<()> {
+    value.write(alloc, text).ok()?;
+    if is_over_one(value) {
+        text.extend_from_slice(b"/1").ok()?;
     }
-    Ok(String::from_utf8(text)?)
+    Some(())
+}
+
+/// Whether a value is a fraction whose denominator is 1.
+fn is_over_one(value: &Value) -> bool {
+    match value {
+        Value::Part(fraction) => fraction.denom() == 1,
+        _ => false,
+    }
+}
+
+/// Whether the text of a value is this, as a score has it.
+pub(crate) fn is_written(alloc: Global, value: &Value, want: &str) -> bool {
+    let mut text = Vec::new(alloc);
+    value.write(alloc, &mut text).is_ok() && text.as_slice() == want.as_bytes()
 }

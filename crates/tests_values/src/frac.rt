@@ -2,13 +2,11 @@
 //!
 //! A row is a call, ` => ` and its answer: a fraction as it is written, or the words of a fault.
 
-use std::alloc::{AllocGlobal, Global};
+use std::alloc::Global;
 use std::cmp::Ordering;
-use std::process::Abort;
 use std::test::Fail;
 use vt_frac::{
-    DecimalFault, Frac, FracFault, Name, NoMemory, is_symbol_name, reduced_is_lowest,
-    reduced_keeps_the_value,
+    Frac, FracFault, Name, NoMemory, is_symbol_name, reduced_is_lowest, reduced_keeps_the_value,
 };
 
 /// The fraction `n/d`, or `n` over 1.
@@ -17,58 +15,69 @@ fn frac_of(text: &str) -> Option<Frac> {
     Frac::new(n.parse::<i64>().ok()?, d.parse::<i64>().ok()?).ok()
 }
 
-/// What a call of two operands gives, or `None` where the row is none.
-fn answer_of(call: &str, a: &str, b: &str) -> Option<Result<Frac, FracFault>> {
-    if call == "new" {
-        return Some(Frac::new(a.parse::<i64>().ok()?, b.parse::<i64>().ok()?));
+/// Whether the fraction is written so.
+fn is_written(alloc: Global, fraction: Frac, want: &str) -> bool {
+    let mut text = Vec::new(alloc);
+    fraction.write(alloc, &mut text).is_ok() && text.as_slice() == want.as_bytes()
+}
+
+/// Whether these are the words of the fault.
+fn has_words(alloc: Global, fault: FracFault, want: &str) -> bool {
+    match fault.to_string(alloc) {
+        Ok(words) => words.as_str() == want,
+        Err(_) => false,
     }
-    let (a, b) = (frac_of(a)?, frac_of(b)?);
+}
+
+fn is_told(alloc: Global, answer: Result<Frac, FracFault>, want: &str) -> bool {
+    match answer {
+        Ok(fraction) => is_written(alloc, fraction, want),
+        Err(fault) => has_words(alloc, fault, want),
+    }
+}
+
+/// Whether a call of two fractions gives this.
+fn gives(alloc: Global, call: &str, a: Frac, b: Frac, want: &str) -> bool {
     if call == "add" {
-        return Some(a.add(b));
+        return is_told(alloc, a.add(b), want);
     }
     if call == "sub" {
-        return Some(a.sub(b));
+        return is_told(alloc, a.sub(b), want);
     }
     if call == "mul" {
-        return Some(a.mul(b));
+        return is_told(alloc, a.mul(b), want);
     }
     if call == "div" {
-        return Some(a.div(b));
+        return is_told(alloc, a.div(b), want);
     }
-    if call == "rem" {
-        return Some(a.rem(b));
+    call == "rem" && is_told(alloc, a.rem(b), want)
+}
+
+/// Whether the fraction of two numbers is this.
+fn is_made(alloc: Global, n: &str, d: &str, want: &str) -> Option<bool> {
+    let made = Frac::new(n.parse::<i64>().ok()?, d.parse::<i64>().ok()?);
+    Some(is_told(alloc, made, want))
+}
+
+/// Whether the call of a row gives what the row says.
+fn holds(alloc: Global, row: &str) -> Option<bool> {
+    let (call, want) = row.split_once(" => ")?;
+    let (name, operands) = call.split_once(' ')?;
+    let (a, b) = operands.split_once(", ")?;
+    if name == "new" {
+        return is_made(alloc, a, b, want);
+    }
+    Some(gives(alloc, name, frac_of(a)?, frac_of(b)?, want))
+}
+
+/// The first row that does not hold, or nothing.
+fn first_wrong(alloc: Global, rows: &str) -> Option<&str> {
+    for row in rows.lines() {
+        if holds(alloc, row) != Some(true) {
+            return Some(row);
+        }
     }
     None
-}
-
-fn fraction_text(alloc: Global, answer: Result<Frac, FracFault>) -> Result<String, Fail> {
-    match answer {
-        Ok(fraction) => {
-            let mut text = Vec::new(alloc);
-            fraction.write(alloc, &mut text)?;
-            Ok(String::from_utf8(text)?)
-        }
-        Err(fault) => Ok(format!(in alloc; "{fault}")?),
-    }
-}
-
-fn decimal_text(alloc: Global, answer: Result<Frac, DecimalFault>) -> Result<String, Fail> {
-    match answer {
-        Ok(fraction) => fraction_text(alloc, Ok(fraction)),
-        Err(fault) => Ok(format!(in alloc; "{fault}")?),
-    }
-}
-
-fn check_operators<X: AllocGlobal + Abort>(rt: &X, rows: &str) -> Result<(), Fail> {
-    for row in rows.lines() {
-        let (call, want) = row.split_once(" => ").ok_or("no answer")?;
-        let (name, operands) = call.split_once(' ').ok_or("no operand")?;
-        let (a, b) = operands.split_once(", ").ok_or("one operand")?;
-        let answer = answer_of(name, a, b).ok_or("no call")?;
-        let text = fraction_text(rt.alloc(), answer)?;
-        assert_eq!(rt; text.as_str(), want, "{row}");
-    }
-    Ok(())
 }
 
 const MADE: &str = "\
@@ -138,12 +147,15 @@ rem -1/9223372036854775807, 9223372036854775806 => a part of the fraction is abo
 ";
 
 #[test]
-fn fractions_are_exact(rt: HostRuntime) -> Result<(), Fail> {
-    check_operators(&rt, MADE)?;
-    check_operators(&rt, COMPUTED)?;
+fn fractions_are_exact(rt: HostRuntime) {
+    assert_eq!(rt; first_wrong(rt.alloc(), MADE), None);
+    assert_eq!(rt; first_wrong(rt.alloc(), COMPUTED), None);
+}
+
+#[test]
+fn the_laws_of_fractions_are_there() {
     reduced_is_lowest();
     reduced_keeps_the_value();
-    Ok(())
 }
 
 const DECIMALS: &str = "\
@@ -181,14 +193,28 @@ const DECIMALS: &str = "\
 999999999999999999.999999999999999999 => a part of the fraction is above 2^63 - 1
 ";
 
-#[test]
-fn decimals_are_read_or_refused(rt: HostRuntime) -> Result<(), Fail> {
-    for row in DECIMALS.lines() {
-        let (bytes, want) = row.split_once(" => ").ok_or("no answer")?;
-        let text = decimal_text(rt.alloc(), Frac::read_decimal(bytes.as_bytes()))?;
-        assert_eq!(rt; text.as_str(), want, "{row}");
+/// Whether a text is read or refused as its row says.
+fn is_read(alloc: Global, row: &str) -> Option<bool> {
+    let (text, want) = row.split_once(" => ")?;
+    match Frac::read_decimal(text.as_bytes()) {
+        Ok(fraction) => Some(is_written(alloc, fraction, want)),
+        Err(fault) => Some(fault.to_string(alloc).ok()?.as_str() == want),
     }
-    Ok(())
+}
+
+/// The first row that does not hold, or nothing.
+fn wrong_decimal(alloc: Global) -> Option<&'static str> {
+    for row in DECIMALS.lines() {
+        if is_read(alloc, row) != Some(true) {
+            return Some(row);
+        }
+    }
+    None
+}
+
+#[test]
+fn decimals_are_read_or_refused(rt: HostRuntime) {
+    assert_eq!(rt; wrong_decimal(rt.alloc()), None);
 }
 
 const FLOORS: &str = "\
@@ -202,14 +228,37 @@ const FLOORS: &str = "\
 -9223372036854775807 => -9223372036854775807
 ";
 
-#[test]
-fn floors_round_down(rt: HostRuntime) -> Result<(), Fail> {
+fn is_floor(row: &str) -> Option<bool> {
+    let (fraction, want) = row.split_once(" => ")?;
+    Some(frac_of(fraction)?.floor() == want.parse::<i64>().ok()?)
+}
+
+/// The first row that does not hold, or nothing.
+fn wrong_floor() -> Option<&'static str> {
     for row in FLOORS.lines() {
-        let (fraction, want) = row.split_once(" => ").ok_or("no answer")?;
-        let floor = frac_of(fraction).ok_or("no fraction")?.floor();
-        assert_eq!(rt; Some(floor), want.parse::<i64>().ok(), "{row}");
+        if is_floor(row) != Some(true) {
+            return Some(row);
+        }
     }
-    Ok(())
+    None
+}
+
+#[test]
+fn floors_round_down(rt: HostRuntime) {
+    assert_eq!(rt; wrong_floor(), None);
+}
+
+fn order_word(order: Ordering) -> &'static str {
+    match order {
+        Ordering::Less => "below",
+        Ordering::Equal => "same",
+        Ordering::Greater => "above",
+    }
+}
+
+/// Whether `<` and `==` say the same as the order of two fractions.
+fn agrees(a: Frac, b: Frac, order: Ordering) -> bool {
+    (a < b) == (order == Ordering::Less) && (a == b) == (order == Ordering::Equal)
 }
 
 /// Whether the order of two fractions is the one that the row names, and `<` and `==` say the same.
@@ -218,13 +267,7 @@ fn is_ordered(row: &str) -> Option<bool> {
     let (a, b) = pair.split_once(", ")?;
     let (a, b) = (frac_of(a)?, frac_of(b)?);
     let order = a.cmp(&b);
-    let agrees = (a < b) == (order == Ordering::Less) && (a == b) == (order == Ordering::Equal);
-    let named = match order {
-        Ordering::Less => want == "below",
-        Ordering::Equal => want == "same",
-        Ordering::Greater => want == "above",
-    };
-    Some(agrees && named)
+    Some(agrees(a, b, order) && order_word(order) == want)
 }
 
 const ORDERED: &str = "\
@@ -238,11 +281,19 @@ const ORDERED: &str = "\
 121/2, 60 => above
 ";
 
+/// The first row that does not hold, or nothing.
+fn wrong_order() -> Option<&'static str> {
+    for row in ORDERED.lines() {
+        if is_ordered(row) != Some(true) {
+            return Some(row);
+        }
+    }
+    None
+}
+
 #[test]
 fn fractions_are_ordered_by_their_values(rt: HostRuntime) {
-    for row in ORDERED.lines() {
-        assert_eq!(rt; is_ordered(row), Some(true), "{row}");
-    }
+    assert_eq!(rt; wrong_order(), None);
 }
 
 const SYMBOL_NAMES: &str = "\
@@ -258,15 +309,35 @@ a b => no
 é => no
 ";
 
-#[test]
-fn names_of_symbols(rt: HostRuntime) -> Result<(), Fail> {
+fn is_named(row: &str) -> Option<bool> {
+    let (name, want) = row.split_once(" => ")?;
+    Some(is_symbol_name(name.as_bytes()) == (want == "yes"))
+}
+
+/// The first row that does not hold, or nothing.
+fn wrong_name() -> Option<&'static str> {
     for row in SYMBOL_NAMES.lines() {
-        let (name, want) = row.split_once(" => ").ok_or("no answer")?;
-        assert_eq!(rt; is_symbol_name(name.as_bytes()), want == "yes", "{row}");
+        if is_named(row) != Some(true) {
+            return Some(row);
+        }
     }
-    let name = Name::of(rt.alloc(), b"drums")?;
-    let copy = name.copy(rt.alloc())?;
-    assert_eq!(rt; copy.as_bytes(), b"drums".as_slice());
+    None
+}
+
+#[test]
+fn names_of_symbols(rt: HostRuntime) {
+    assert_eq!(rt; wrong_name(), None);
+}
+
+/// Whether a copy of a name has its bytes.
+fn names_are_copied(alloc: Global) -> Option<bool> {
+    let copy = Name::of(alloc, b"drums").ok()?.copy(alloc).ok()?;
+    Some(copy.as_bytes() == b"drums".as_slice())
+}
+
+#[test]
+fn names_and_want_of_memory(rt: HostRuntime) -> Result<(), Fail> {
+    assert_eq!(rt; names_are_copied(rt.alloc()), Some(true));
     let text = format!(in rt.alloc(); "{NoMemory}")?;
     assert_eq!(rt; text.as_str(), "out of memory");
     Ok(())

@@ -1,7 +1,6 @@
 //! Paths, patterns, and which match.
 
-use std::alloc::{AllocGlobal, Global};
-use std::process::Abort;
+use std::alloc::Global;
 use std::test::Fail;
 use vt_frac::is_symbol_name;
 use vt_path::{
@@ -9,39 +8,41 @@ use vt_path::{
     one_pattern_law, parse_path, parse_pattern,
 };
 
-fn path_text(alloc: Global, path: &Path) -> Result<String, Fail> {
+/// Whether the path is written so.
+fn is_path(alloc: Global, path: &Path, want: &str) -> bool {
     let mut text = Vec::new(alloc);
-    path.write(alloc, &mut text)?;
-    Ok(String::from_utf8(text)?)
+    path.write(alloc, &mut text).is_ok() && text.as_slice() == want.as_bytes()
 }
 
-fn pattern_text(alloc: Global, pattern: &Pattern) -> Result<String, Fail> {
+/// Whether the pattern is written so.
+fn is_pattern(alloc: Global, pattern: &Pattern, want: &str) -> bool {
     let mut text = Vec::new(alloc);
-    pattern.write(alloc, &mut text)?;
-    Ok(String::from_utf8(text)?)
+    pattern.write(alloc, &mut text).is_ok() && text.as_slice() == want.as_bytes()
 }
 
-/// The place of the first byte that nothing continues with, or the words of another fault.
-fn place_text(alloc: Global, fault: PathFault) -> Result<String, Fail> {
+/// Whether this is the place of the first byte that nothing continues with.
+fn is_place(fault: PathFault, want: &str) -> bool {
     match fault {
-        PathFault::BadPath(at) => Ok(format!(in alloc; "{at}")?),
-        PathFault::NoMemory => Ok(format!(in alloc; "{fault}")?),
+        PathFault::BadPath(at) => want.parse::<u32>().ok() == Some(at),
+        PathFault::NoMemory => false,
     }
 }
 
-/// The path as it is written, or where it is refused.
-fn path_answer(alloc: Global, text: &str) -> Result<String, Fail> {
+/// Whether a path is written as it is read, or refused where its row says.
+fn path_holds(alloc: Global, row: &str) -> bool {
+    let (text, want) = row.split_once(" => ").unwrap_or((row, row));
     match parse_path(alloc, text.as_bytes()) {
-        Ok(path) => path_text(alloc, &path),
-        Err(fault) => place_text(alloc, fault),
+        Ok(path) => is_path(alloc, &path, want),
+        Err(fault) => is_place(fault, want),
     }
 }
 
-/// The pattern as it is written, or where it is refused.
-fn pattern_answer(alloc: Global, text: &str) -> Result<String, Fail> {
+/// Whether a pattern is written as it is read, or refused where its row says.
+fn pattern_holds(alloc: Global, row: &str) -> bool {
+    let (text, want) = row.split_once(" => ").unwrap_or((row, row));
     match parse_pattern(alloc, text.as_bytes()) {
-        Ok(pattern) => pattern_text(alloc, &pattern),
-        Err(fault) => place_text(alloc, fault),
+        Ok(pattern) => is_pattern(alloc, &pattern, want),
+        Err(fault) => is_place(fault, want),
     }
 }
 
@@ -78,18 +79,20 @@ a => 0
 /aaaaaaaaaabbbbbbbbbbccccccccccddddddddddeeeeeeeeeeffffffffffgggzz => 65
 ";
 
+/// The first row that does not hold, or nothing.
+fn wrong_path(alloc: Global, rows: &str) -> Option<&str> {
+    for row in rows.lines() {
+        if !path_holds(alloc, row) {
+            return Some(row);
+        }
+    }
+    None
+}
+
 #[test]
-fn paths_are_read_or_refused_at_a_byte(rt: HostRuntime) -> Result<(), Fail> {
-    for text in PATHS.lines() {
-        assert_eq!(rt; path_answer(rt.alloc(), text)?.as_str(), text);
-    }
-    for row in NO_PATHS.lines() {
-        let (text, want) = row.split_once(" => ").ok_or("no answer")?;
-        assert_eq!(rt; path_answer(rt.alloc(), text)?.as_str(), want, "{row}");
-    }
-    one_path_law();
-    one_pattern_law();
-    Ok(())
+fn paths_are_read_or_refused_at_a_byte(rt: HostRuntime) {
+    assert_eq!(rt; wrong_path(rt.alloc(), PATHS), None);
+    assert_eq!(rt; wrong_path(rt.alloc(), NO_PATHS), None);
 }
 
 const PATTERNS: &str = "\
@@ -142,16 +145,26 @@ const NO_PATTERNS: &str = "\
 /aaaaaaaaaabbbbbbbbbbccccccccccddddddddddeeeeeeeeeeffffffffffg{ab} => 64
 ";
 
+/// The first row that does not hold, or nothing.
+fn wrong_pattern(alloc: Global, rows: &str) -> Option<&str> {
+    for row in rows.lines() {
+        if !pattern_holds(alloc, row) {
+            return Some(row);
+        }
+    }
+    None
+}
+
 #[test]
-fn patterns_are_read_or_refused_at_a_byte(rt: HostRuntime) -> Result<(), Fail> {
-    for text in PATTERNS.lines() {
-        assert_eq!(rt; pattern_answer(rt.alloc(), text)?.as_str(), text);
-    }
-    for row in NO_PATTERNS.lines() {
-        let (text, want) = row.split_once(" => ").ok_or("no answer")?;
-        assert_eq!(rt; pattern_answer(rt.alloc(), text)?.as_str(), want, "{row}");
-    }
-    Ok(())
+fn patterns_are_read_or_refused_at_a_byte(rt: HostRuntime) {
+    assert_eq!(rt; wrong_pattern(rt.alloc(), PATTERNS), None);
+    assert_eq!(rt; wrong_pattern(rt.alloc(), NO_PATTERNS), None);
+}
+
+#[test]
+fn the_laws_of_paths_are_there() {
+    one_path_law();
+    one_pattern_law();
 }
 
 const MATCHED: &str = "\
@@ -205,67 +218,94 @@ const MATCHED: &str = "\
 /*** /a/b => no
 ";
 
-fn is_matched(alloc: Global, pair: &str) -> Result<bool, Fail> {
-    let (pattern, path) = pair.split_once(' ').ok_or("no path")?;
-    let pattern = parse_pattern(alloc, pattern.as_bytes())?;
-    let path = parse_path(alloc, path.as_bytes())?;
-    Ok(matches(&pattern, &path))
+fn match_holds(alloc: Global, row: &str) -> Option<bool> {
+    let (pair, want) = row.split_once(" => ")?;
+    let (pattern, path) = pair.split_once(' ')?;
+    let path = parse_path(alloc, path.as_bytes()).ok()?;
+    Some(is_matched(alloc, pattern, &path)? == (want == "yes"))
+}
+
+/// Whether the pattern of a text matches the path.
+fn is_matched(alloc: Global, pattern: &str, path: &Path) -> Option<bool> {
+    let pattern = parse_pattern(alloc, pattern.as_bytes()).ok()?;
+    Some(matches(&pattern, path))
+}
+
+/// The first row that does not hold, or nothing.
+fn wrong_match(alloc: Global) -> Option<&'static str> {
+    for row in MATCHED.lines() {
+        if match_holds(alloc, row) != Some(true) {
+            return Some(row);
+        }
+    }
+    None
 }
 
 #[test]
-fn patterns_match(rt: HostRuntime) -> Result<(), Fail> {
-    for row in MATCHED.lines() {
-        let (pair, want) = row.split_once(" => ").ok_or("no answer")?;
-        assert_eq!(rt; is_matched(rt.alloc(), pair)?, want == "yes", "{row}");
-    }
-    Ok(())
+fn patterns_match(rt: HostRuntime) {
+    assert_eq!(rt; wrong_match(rt.alloc()), None);
 }
 
 /// The inner path of a kind and a symbol's name.
-fn inner_of(alloc: Global, kind: InnerKind, name: &[u8]) -> Result<Path, Fail> {
+fn inner_of(alloc: Global, kind: InnerKind, name: &[u8]) -> Option<Path> {
     if is_symbol_name(name) {
-        Ok(inner(alloc, kind, name)?)
-    } else {
-        Err(Fail::from("no name of a symbol"))
+        return inner(alloc, kind, name).ok();
     }
+    None
 }
 
 /// The pattern of the three paths of a symbol's name.
-fn any_path_of(alloc: Global, name: &[u8]) -> Result<Pattern, Fail> {
+fn any_path_of(alloc: Global, name: &[u8]) -> Option<Pattern> {
     if is_symbol_name(name) {
-        Ok(any_of(alloc, name)?)
-    } else {
-        Err(Fail::from("no name of a symbol"))
+        return any_of(alloc, name).ok();
     }
+    None
 }
 
-/// The inner path of a kind: it is written so, its own pattern alone matches it, and so do copies of both.
-fn check_inner<X: AllocGlobal + Abort>(rt: &X, kind: InnerKind, text: &str) -> Result<(), Fail> {
-    let alloc = rt.alloc();
+/// Whether a copy of the pattern matches a copy of the path.
+fn copies_match(alloc: Global, pattern: &Pattern, path: &Path) -> Option<bool> {
+    let path = path.copy(alloc).ok()?;
+    copy_matches(alloc, pattern, &path)
+}
+
+fn copy_matches(alloc: Global, pattern: &Pattern, path: &Path) -> Option<bool> {
+    let pattern = pattern.copy(alloc).ok()?;
+    Some(matches(&pattern, path))
+}
+
+/// Whether the path and a copy of its own pattern are written so, and that pattern matches a copy of the path and not the
+/// other path.
+fn has_own(alloc: Global, path: &Path, other: &Path, text: &str) -> Option<bool> {
+    let own = literal(alloc, path).ok()?.copy(alloc).ok()?;
+    let is_written = is_path(alloc, path, text) && is_pattern(alloc, &own, text);
+    let is_matched = copies_match(alloc, &own, path) == Some(true) && !matches(&own, other);
+    Some(is_written && is_matched)
+}
+
+/// Whether no pattern of a text matches the path.
+fn has_no_other(alloc: Global, path: &Path) -> bool {
+    for pattern in "/** /*/x /?{body,def,name,loop,stop}/x".split(' ') {
+        if is_matched(alloc, pattern, path) != Some(false) {
+            return false;
+        }
+    }
+    true
+}
+
+/// Whether the inner path of a kind is written so, and its own pattern alone matches it.
+fn is_inner(alloc: Global, kind: InnerKind, text: &str) -> Option<bool> {
     let path = inner_of(alloc, kind, b"x")?;
-    let own = literal(alloc, &path)?;
-    assert_eq!(rt; path_text(alloc, &path)?.as_str(), text);
-    assert_eq!(rt; pattern_text(alloc, &own.copy(alloc)?)?.as_str(), text);
-    assert!(rt; matches(&own.copy(alloc)?, &path.copy(alloc)?));
-    assert!(rt; !matches(&own, &inner_of(alloc, kind, b"y")?));
-    assert!(rt; !matches(&parse_pattern(alloc, b"/**")?, &path));
-    assert!(rt; !matches(&parse_pattern(alloc, b"/*/x")?, &path));
-    assert!(rt;
-        !matches(
-            &parse_pattern(alloc, b"/?{body,def,name,loop,stop}/x")?,
-            &path
-        )
-    );
-    Ok(())
+    let other = inner_of(alloc, kind, b"y")?;
+    Some(has_own(alloc, &path, &other, text) == Some(true) && has_no_other(alloc, &path))
 }
 
 #[test]
-fn inner_paths_have_their_own_pattern_alone(rt: HostRuntime) -> Result<(), Fail> {
-    check_inner(&rt, InnerKind::Body, "/!body/x")?;
-    check_inner(&rt, InnerKind::Def, "/!def/x")?;
-    check_inner(&rt, InnerKind::Named, "/!name/x")?;
-    check_inner(&rt, InnerKind::Looped, "/!loop/x")?;
-    check_inner(&rt, InnerKind::Stop, "/!stop/x")
+fn inner_paths_have_their_own_pattern_alone(rt: HostRuntime) {
+    assert!(rt; is_inner(rt.alloc(), InnerKind::Body, "/!body/x") == Some(true));
+    assert!(rt; is_inner(rt.alloc(), InnerKind::Def, "/!def/x") == Some(true));
+    assert!(rt; is_inner(rt.alloc(), InnerKind::Named, "/!name/x") == Some(true));
+    assert!(rt; is_inner(rt.alloc(), InnerKind::Looped, "/!loop/x") == Some(true));
+    assert!(rt; is_inner(rt.alloc(), InnerKind::Stop, "/!stop/x") == Some(true));
 }
 
 const STOOD_FOR: &str = "\
@@ -276,18 +316,35 @@ const STOOD_FOR: &str = "\
 /osc/a => no
 ";
 
-#[test]
-fn a_bare_name_stands_for_three_paths(rt: HostRuntime) -> Result<(), Fail> {
-    let any = any_path_of(rt.alloc(), b"a")?;
-    assert_eq!(rt;
-        pattern_text(rt.alloc(), &any)?.as_str(),
-        "/{cue,set,live_loop}/a"
-    );
+fn stands_for(alloc: Global, any: &Pattern, row: &str) -> Option<bool> {
+    let (path, want) = row.split_once(" => ")?;
+    let path = parse_path(alloc, path.as_bytes()).ok()?;
+    Some(matches(any, &path) == (want == "yes"))
+}
+
+/// The first row that does not hold of the bare name, or nothing.
+fn wrong_stand(alloc: Global, any: &Pattern) -> Option<&'static str> {
     for row in STOOD_FOR.lines() {
-        let (path, want) = row.split_once(" => ").ok_or("no answer")?;
-        let path = parse_path(rt.alloc(), path.as_bytes())?;
-        assert_eq!(rt; matches(&any, &path), want == "yes", "{row}");
+        if stands_for(alloc, any, row) != Some(true) {
+            return Some(row);
+        }
     }
+    None
+}
+
+/// Whether the pattern of a bare name is written as it should, and matches as its rows say.
+fn bare_name_holds(alloc: Global) -> Option<bool> {
+    let any = any_path_of(alloc, b"a")?;
+    Some(is_pattern(alloc, &any, "/{cue,set,live_loop}/a") && wrong_stand(alloc, &any).is_none())
+}
+
+#[test]
+fn a_bare_name_stands_for_three_paths(rt: HostRuntime) {
+    assert_eq!(rt; bare_name_holds(rt.alloc()), Some(true));
+}
+
+#[test]
+fn a_fault_names_its_byte(rt: HostRuntime) -> Result<(), Fail> {
     let fault = PathFault::BadPath(7);
     let text = format!(in rt.alloc(); "{fault}")?;
     assert_eq!(rt; text.as_str(), "no path or pattern goes on so at byte 7");

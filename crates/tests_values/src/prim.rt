@@ -1,53 +1,56 @@
 //! The pure and random calls: their values, edges and faults, and the words that they draw.
 
-use crate::answers::{answer, answers};
-use crate::reader::{Row, row_of};
+use crate::answers::is_told;
+use crate::reader::{Arguments, arguments_of};
 use std::alloc::Global;
-use std::test::Fail;
 use vt_prim::call;
 use vt_rand::Stream;
 use vt_table::call_of;
-use vt_value::{Value, ValueFault};
 
-/// What the call of a row gives, or `None` where its name is that of no pure or random call.
-fn outcome_of(
-    alloc: Global,
-    row: &Row<'_>,
-    stream: &mut Stream,
-) -> Option<Result<Value, ValueFault>> {
-    let call_row = call_of(row.name.as_bytes())?;
-    if call_row.effect {
+/// The first words of seed 42 (bench/pcg_words).
+const WORDS: [u32; 6] = [
+    0xcaa87230, 0xc7a95d44, 0x1eb4d0ae, 0xfbcfed44, 0x5cc0ffbe, 0xa587db8d,
+];
+
+/// The word of seed 42 behind those that a row draws.
+fn next_word(draws: &str) -> Option<u32> {
+    let drawn = draws.strip_suffix(" of seed 42")?;
+    WORDS.get(drawn.parse::<usize>().ok()?).copied()
+}
+
+/// Whether a pure or random call gives what its row says, and leaves this word as the next of seed 42.
+fn gives(alloc: Global, name: &str, arguments: &Arguments, want: &str, next: u32) -> Option<bool> {
+    let row = call_of(name.as_bytes())?;
+    if row.effect {
         return None;
     }
-    let args = row.arguments.values.as_slice();
-    let options = row.arguments.options.as_slice();
-    Some(call(alloc, call_row.number, args, options, stream))
+    let args = arguments.values.as_slice();
+    let options = arguments.options.as_slice();
+    let mut stream = Stream::from_seed(42);
+    let outcome = call(alloc, row.number, args, options, &mut stream);
+    Some(is_told(alloc, &outcome, want) && stream.word() == next)
 }
 
-/// What the call of a row gives, where it draws the words that the row says and no more.
-fn outcome(alloc: Global, line: &str) -> Option<Result<Value, ValueFault>> {
-    let row = row_of(alloc, line)?;
-    let mut stream = Stream::from_seed(row.seed);
-    let outcome = outcome_of(alloc, &row, &mut stream);
-    if stream.word() != row.next {
-        return None;
+/// Whether the call of a row gives what the row says. Where it says nothing of words, none is drawn.
+fn holds(alloc: Global, row: &str) -> Option<bool> {
+    let (call, answer) = row.split_once(" => ")?;
+    let (want, draws) = answer
+        .split_once(" drawing ")
+        .unwrap_or((answer, "0 of seed 42"));
+    let next = next_word(draws)?;
+    let (name, arguments) = call.split_once(' ').unwrap_or((call, ""));
+    let arguments = arguments_of(alloc, arguments)?;
+    gives(alloc, name, &arguments, want, next)
+}
+
+/// The first row that does not hold, or nothing.
+fn first_wrong(alloc: Global, rows: &str) -> Option<&str> {
+    for row in rows.lines() {
+        if holds(alloc, row) != Some(true) {
+            return Some(row);
+        }
     }
-    outcome
-}
-
-/// What stands behind the value or the fault of a row.
-fn draws_of(line: &str) -> &str {
-    match line.find(" drawing ") {
-        Some(at) => line.get(at..).unwrap_or(""),
-        None => "",
-    }
-}
-
-/// The answer of a row's call.
-pub(crate) fn called(alloc: Global, line: &str) -> Result<String, Fail> {
-    let outcome = outcome(alloc, line).ok_or("no pure or random call, or other words")?;
-    let text = answer(alloc, &outcome)?;
-    Ok(format!(in alloc; "{text}{}", draws_of(line))?)
+    None
 }
 
 const NUMBERS: &str = "\
@@ -88,9 +91,8 @@ odd nil => wrong_kind
 ";
 
 #[test]
-fn calls_on_numbers(rt: HostRuntime) -> Result<(), Fail> {
-    assert_eq!(rt; answers(rt.alloc(), NUMBERS)?.as_str(), NUMBERS);
-    Ok(())
+fn calls_on_numbers(rt: HostRuntime) {
+    assert_eq!(rt; first_wrong(rt.alloc(), NUMBERS), None);
 }
 
 const COUNTS: &str = "\
@@ -123,9 +125,8 @@ last 1 => wrong_kind
 ";
 
 #[test]
-fn calls_that_count_and_sort(rt: HostRuntime) -> Result<(), Fail> {
-    assert_eq!(rt; answers(rt.alloc(), COUNTS)?.as_str(), COUNTS);
-    Ok(())
+fn calls_that_count_and_sort(rt: HostRuntime) {
+    assert_eq!(rt; first_wrong(rt.alloc(), COUNTS), None);
 }
 
 const NOTES: &str = "\
@@ -186,9 +187,8 @@ chord_invert [0, 9223372036854775807], 2 => overflow
 ";
 
 #[test]
-fn calls_on_notes(rt: HostRuntime) -> Result<(), Fail> {
-    assert_eq!(rt; answers(rt.alloc(), NOTES)?.as_str(), NOTES);
-    Ok(())
+fn calls_on_notes(rt: HostRuntime) {
+    assert_eq!(rt; first_wrong(rt.alloc(), NOTES), None);
 }
 
 const MADE: &str = "\
@@ -228,9 +228,8 @@ spread 9, 1/1 => wrong_kind
 ";
 
 #[test]
-fn calls_that_make_rings(rt: HostRuntime) -> Result<(), Fail> {
-    assert_eq!(rt; answers(rt.alloc(), MADE)?.as_str(), MADE);
-    Ok(())
+fn calls_that_make_rings(rt: HostRuntime) {
+    assert_eq!(rt; first_wrong(rt.alloc(), MADE), None);
 }
 
 const PARTS: &str = "\
@@ -273,9 +272,8 @@ repeat [1], 4097 => too_large
 ";
 
 #[test]
-fn calls_on_parts_of_rings(rt: HostRuntime) -> Result<(), Fail> {
-    assert_eq!(rt; answers(rt.alloc(), PARTS)?.as_str(), PARTS);
-    Ok(())
+fn calls_on_parts_of_rings(rt: HostRuntime) {
+    assert_eq!(rt; first_wrong(rt.alloc(), PARTS), None);
 }
 
 const OPTIONS: &str = "\
@@ -294,9 +292,8 @@ line nil, 1, steps: 4097 => wrong_kind
 ";
 
 #[test]
-fn options_and_their_faults(rt: HostRuntime) -> Result<(), Fail> {
-    assert_eq!(rt; answers(rt.alloc(), OPTIONS)?.as_str(), OPTIONS);
-    Ok(())
+fn options_and_their_faults(rt: HostRuntime) {
+    assert_eq!(rt; first_wrong(rt.alloc(), OPTIONS), None);
 }
 
 // The values, and how many words are drawn, by bench/random_calls; the faults by hand.
@@ -345,7 +342,6 @@ shuffle 1 => wrong_kind drawing 0 of seed 42
 ";
 
 #[test]
-fn random_calls_draw_the_words_of_their_seed(rt: HostRuntime) -> Result<(), Fail> {
-    assert_eq!(rt; answers(rt.alloc(), DRAWS)?.as_str(), DRAWS);
-    Ok(())
+fn random_calls_draw_the_words_of_their_seed(rt: HostRuntime) {
+    assert_eq!(rt; first_wrong(rt.alloc(), DRAWS), None);
 }

@@ -2,22 +2,34 @@
 
 use rand_core::utils::NextWord;
 use rand_pcg::Pcg32;
-use std::test::Fail;
 use vt_frac::Frac;
 use vt_rand::{Stream, draws_add_up, words_fit, words_repeat};
 
 /// The demo output that the reference C code of PCG publishes for pcg32 at state 42 and sequence 54.
 const PUBLISHED: &str = "a15c02b7 7b47f409 ba1d3330 83d2f293 bfa4784b cbed606e";
 
+/// Whether a word is the one that is written so, in hexadecimal.
+fn is_word(word: u32, want: &str) -> bool {
+    Some(word) == u32::from_str_radix(want, 16).ok()
+}
+
+/// Whether these are the words that come next.
+fn are_published(generator: &mut Pcg32, words: &str) -> bool {
+    for word in words.split(' ') {
+        if !is_word(generator.next_word(), word) {
+            return false;
+        }
+    }
+    true
+}
+
 #[test]
 fn the_generator_has_its_published_words(rt: HostRuntime) {
-    let mut generator = Pcg32::new(42, 54);
-    for word in PUBLISHED.split(' ') {
-        assert_eq!(rt;
-            Some(generator.next_word()),
-            u32::from_str_radix(word, 16).ok()
-        );
-    }
+    assert!(rt; are_published(&mut Pcg32::new(42, 54), PUBLISHED));
+}
+
+#[test]
+fn the_laws_of_streams_are_there() {
     words_fit();
     words_repeat();
     draws_add_up();
@@ -32,20 +44,36 @@ const WORDS: &str = "\
 18446744073709551615: 982f997e 513da686 e017d20c c8ade03d 8a7924ca 3e097bc0 6921eb3d 3a22b6ed aadae43a 7d94eb98 b3450327 f2104ae1 18e1f034 382bd571 18b4fb6e 03ea3641 0067ce31 dd69c231 4d73bade dcf6f450 07c3f7c7 74438ab3 acfff6ea 0db6af85 d378ce5f deed09e8 c6894e32 6c3ef5a5 b3b463c3 12b1e14d 08f7fc39 96a29e02
 ";
 
-#[test]
-fn words_are_those_of_an_independent_program(rt: HostRuntime) -> Result<(), Fail> {
-    for row in WORDS.lines() {
-        let (seed, words) = row.split_once(": ").ok_or("no words")?;
-        let mut stream = Stream::from_seed(seed.parse::<u64>()?);
-        for word in words.split(' ') {
-            assert_eq!(rt;
-                Some(stream.word()),
-                u32::from_str_radix(word, 16).ok(),
-                "{row}"
-            );
+/// Whether these are the words that come next.
+fn are_words(stream: &mut Stream, words: &str) -> bool {
+    for word in words.split(' ') {
+        if !is_word(stream.word(), word) {
+            return false;
         }
     }
-    Ok(())
+    true
+}
+
+/// Whether the words of the seed of a row are those that the row has.
+fn has_words(row: &str) -> Option<bool> {
+    let (seed, words) = row.split_once(": ")?;
+    let mut stream = Stream::from_seed(seed.parse::<u64>().ok()?);
+    Some(are_words(&mut stream, words))
+}
+
+/// The first row that does not hold, or nothing.
+fn wrong_words() -> Option<&'static str> {
+    for row in WORDS.lines() {
+        if has_words(row) != Some(true) {
+            return Some(row);
+        }
+    }
+    None
+}
+
+#[test]
+fn words_are_those_of_an_independent_program(rt: HostRuntime) {
+    assert_eq!(rt; wrong_words(), None);
 }
 
 /// A thread of seed 0 starts two children: words 1 and 2 are the seed of the first, words 3 and 4 of the second. The
@@ -55,27 +83,42 @@ const CHILDREN: &str = "\
 140833d33efaaf3e: 38231 56824 8629 58086
 ";
 
-#[test]
-fn children_have_seeds_of_two_words_each(rt: HostRuntime) -> Result<(), Fail> {
-    let mut parent = Stream::from_seed(0);
-    for row in CHILDREN.lines() {
-        let (seed, uppers) = row.split_once(": ").ok_or("no draws")?;
-        let child_seed = parent.child_seed();
-        assert_eq!(rt;
-            Some(child_seed),
-            u64::from_str_radix(seed, 16).ok(),
-            "{row}"
-        );
-        let mut child = Stream::from_seed(child_seed);
-        for upper in uppers.split(' ') {
-            assert_eq!(rt;
-                child.unit(),
-                Frac::new(upper.parse::<i64>()?, 65536)?,
-                "{row}"
-            );
+/// Whether a draw is so many parts of 65,536.
+fn is_unit(unit: Frac, parts: &str) -> Option<bool> {
+    Some(unit == Frac::new(parts.parse::<i64>().ok()?, 65536).ok()?)
+}
+
+/// Whether these are the draws that come next.
+fn are_units(stream: &mut Stream, uppers: &str) -> bool {
+    for upper in uppers.split(' ') {
+        if is_unit(stream.unit(), upper) != Some(true) {
+            return false;
         }
     }
-    Ok(())
+    true
+}
+
+/// Whether the next child has the seed of a row, and its draws are those that the row has.
+fn has_child(parent: &mut Stream, row: &str) -> Option<bool> {
+    let (want, uppers) = row.split_once(": ")?;
+    let seed = parent.child_seed();
+    let is_seed = Some(seed) == u64::from_str_radix(want, 16).ok();
+    Some(is_seed && are_units(&mut Stream::from_seed(seed), uppers))
+}
+
+/// The first row that does not hold of the children of this stream, or nothing.
+fn wrong_child(parent: &mut Stream) -> Option<&'static str> {
+    for row in CHILDREN.lines() {
+        if has_child(parent, row) != Some(true) {
+            return Some(row);
+        }
+    }
+    None
+}
+
+#[test]
+fn children_have_seeds_of_two_words_each(rt: HostRuntime) {
+    assert_eq!(rt; wrong_child(&mut Stream::from_seed(0)), None);
 }
 
 /// Twelve draws of seed 42 below each number, computed by bench/pcg_words.
@@ -87,16 +130,35 @@ const DRAWS: &str = "\
 4294967295: 3400036911 3349765443 515166381 4224707907 1556152253 2777144204 3631167441 1399683182 3941590490 1070702034 641085400 2165302578
 ";
 
-#[test]
-fn draws_below_a_number_scale_the_word(rt: HostRuntime) -> Result<(), Fail> {
-    for row in DRAWS.lines() {
-        let (n, draws) = row.split_once(": ").ok_or("no draws")?;
-        let n = n.parse::<u32>()?;
-        assert!(rt; n >= 1);
-        let mut stream = Stream::from_seed(42).clone()?;
-        for draw in draws.split(' ') {
-            assert_eq!(rt; Some(stream.below(n)), draw.parse::<u32>().ok(), "{row}");
+/// Whether these are the draws below a number that come next.
+fn are_below(stream: &mut Stream, n: u32, draws: &str) -> bool {
+    for draw in draws.split(' ') {
+        if n == 0 || draw.parse::<u32>().ok() != Some(stream.below(n)) {
+            return false;
         }
     }
-    Ok(())
+    true
+}
+
+/// Whether a clone of seed 42 draws the numbers of a row below the number of the row.
+fn has_draws(row: &str) -> Option<bool> {
+    let (n, draws) = row.split_once(": ")?;
+    let n = n.parse::<u32>().ok()?;
+    let mut stream = Stream::from_seed(42).clone().ok()?;
+    Some(are_below(&mut stream, n, draws))
+}
+
+/// The first row that does not hold, or nothing.
+fn wrong_draws() -> Option<&'static str> {
+    for row in DRAWS.lines() {
+        if has_draws(row) != Some(true) {
+            return Some(row);
+        }
+    }
+    None
+}
+
+#[test]
+fn draws_below_a_number_scale_the_word(rt: HostRuntime) {
+    assert_eq!(rt; wrong_draws(), None);
 }

@@ -1,122 +1,89 @@
 //! Reads the rows of the tests. A row is a call as a score spells its arguments, ` => `, and the text of its value or the
-//! word of its fault; behind it may stand how many words it draws, and of which seed.
+//! word of its fault; behind it may stand how many words of seed 42 it draws.
 //!
 //!     range 0, 4, step: 2 => [0, 2]
 //!     pick [7, 8, 9], 5 => [9, 9, 7, 9, 8] drawing 5 of seed 42
 //!
 //! A number with a slash is a fraction, also where its denominator is 1. The items of a ring are no rings, and a text has
-//! no comma.
+//! no comma, no bracket, and no blank behind a colon.
 
 use std::alloc::Global;
 use vt_frac::{Frac, Name};
 use vt_value::{Integer, Items, Symbol, Value};
 
-/// The first words of seed 42 (bench/pcg_words).
-const WORDS: [u32; 6] = [
-    0xcaa87230, 0xc7a95d44, 0x1eb4d0ae, 0xfbcfed44, 0x5cc0ffbe, 0xa587db8d,
-];
-
-/// A row. Where it says nothing of words, none of seed 42 is drawn.
-#[derive(Drop)]
-pub(crate) struct Row<'a> {
-    pub(crate) name: &'a str,
-    pub(crate) arguments: Arguments,
-    pub(crate) seed: u64,
-    /// The word of the seed behind those that are drawn.
-    pub(crate) next: u32,
-}
-
-/// The arguments and options that are read, and the items of a ring whose bracket is still open.
+/// The arguments and options that are read.
 #[derive(Drop)]
 pub(crate) struct Arguments {
-    pub(crate) values: Vec<Value>,
+    pub(crate) values: Items,
     pub(crate) options: Vec<(Name, Value)>,
-    open: Option<Items>,
 }
 
-/// The row of a line, or `None` where the line is none.
-pub(crate) fn row_of(alloc: Global, line: &str) -> Option<Row<'_>> {
-    let (call, answer) = line.split_once(" => ")?;
-    let (seed, next) = draws_of(answer)?;
-    let (name, arguments) = call.split_once(' ').unwrap_or((call, ""));
-    let arguments = arguments_of(alloc, arguments)?;
-    Some(Row {
-        name,
-        arguments,
-        seed,
-        next,
-    })
-}
-
-/// The seed of a row, and its word behind those that are drawn.
-fn draws_of(answer: &str) -> Option<(u64, u32)> {
-    let (_want, draws) = answer.split_once(" drawing ").unwrap_or((answer, ""));
-    let (drawn, seed) = draws.split_once(" of seed ").unwrap_or(("0", "42"));
-    let seed = seed.parse::<u64>().ok()?;
-    Some((seed, word_behind(seed, drawn.parse::<usize>().ok()?)?))
-}
-
-/// The word behind the first `drawn` words of a seed, if it is known.
-fn word_behind(seed: u64, drawn: usize) -> Option<u32> {
-    if seed != 42 {
-        return None;
-    }
-    WORDS.get(drawn).copied()
-}
-
-fn arguments_of(alloc: Global, text: &str) -> Option<Arguments> {
+/// The arguments and options of a text, or `None` where it has others.
+pub(crate) fn arguments_of(alloc: Global, text: &str) -> Option<Arguments> {
     let mut arguments = Arguments {
-        values: Vec::new(alloc),
+        values: Items::new(alloc),
         options: Vec::new(alloc),
-        open: None,
     };
-    if text.is_empty() {
-        return Some(arguments);
-    }
-    for word in text.split(", ") {
-        arguments.read(alloc, word)?;
-    }
-    if arguments.open.is_some() {
-        return None;
-    }
+    arguments.read(alloc, text)?;
     Some(arguments)
 }
 
+/// The value that a text ends with.
+pub(crate) fn value_of(alloc: Global, text: &str) -> Option<Value> {
+    arguments_of(alloc, text)?.values.pop()
+}
+
 impl Arguments {
-    /// Reads what stands between two commas.
-    fn read(&mut self, alloc: Global, word: &str) -> Option<()> {
-        if let Some(items) = self.open.take() {
-            return self.read_item(alloc, items, word);
+    /// Reads what stands before the first ring, and each ring with what stands behind it.
+    fn read(&mut self, alloc: Global, text: &str) -> Option<()> {
+        for part in text.split('[') {
+            self.read_part(alloc, part)?;
         }
-        if let Some(word) = word.strip_prefix('[') {
-            return self.read_item(alloc, Items::new(alloc), word);
-        }
-        if let Some((name, value)) = word.split_once(": ") {
-            let name = Name::of(alloc, name.as_bytes()).ok()?;
-            let value = value_of(alloc, value)?;
-            return self.options.push((name, value)).ok();
-        }
-        let value = value_of(alloc, word)?;
-        self.values.push(value).ok()
+        Some(())
     }
 
-    /// Reads an item of a ring, and the bracket behind it.
-    fn read_item(&mut self, alloc: Global, mut items: Items, word: &str) -> Option<()> {
-        let item = word.strip_suffix(']');
-        let text = item.unwrap_or(word);
-        if !text.is_empty() {
-            items.push(value_of(alloc, text)?).ok()?;
+    /// Reads the ring that a part begins with, if one does, and the words behind it.
+    fn read_part(&mut self, alloc: Global, part: &str) -> Option<()> {
+        let Some((ring, words)) = part.split_once(']') else {
+            return self.read_words(alloc, part);
+        };
+        let mut items = Items::new(alloc);
+        read_items(alloc, &mut items, ring)?;
+        self.values.push(Value::Ring(items)).ok()?;
+        self.read_words(alloc, words)
+    }
+
+    fn read_words(&mut self, alloc: Global, words: &str) -> Option<()> {
+        for word in words.split(", ") {
+            if !word.is_empty() {
+                self.read_word(alloc, word)?;
+            }
         }
-        if item.is_none() {
-            self.open = Some(items);
-            return Some(());
-        }
-        self.values.push(Value::Ring(items)).ok()
+        Some(())
+    }
+
+    /// Reads an argument that is no ring, or an option.
+    fn read_word(&mut self, alloc: Global, word: &str) -> Option<()> {
+        let Some((name, value)) = word.split_once(": ") else {
+            return self.values.push(plain_of(alloc, word)?).ok();
+        };
+        let name = Name::of(alloc, name.as_bytes()).ok()?;
+        let value = plain_of(alloc, value)?;
+        self.options.push((name, value)).ok()
     }
 }
 
+fn read_items(alloc: Global, items: &mut Items, words: &str) -> Option<()> {
+    for word in words.split(", ") {
+        if !word.is_empty() {
+            items.push(plain_of(alloc, word)?).ok()?;
+        }
+    }
+    Some(())
+}
+
 /// A value that is no ring.
-fn value_of(alloc: Global, text: &str) -> Option<Value> {
+fn plain_of(alloc: Global, text: &str) -> Option<Value> {
     if text == "nil" {
         return Some(Value::Nil);
     }
@@ -124,16 +91,24 @@ fn value_of(alloc: Global, text: &str) -> Option<Value> {
         return Some(Value::Bool(truth));
     }
     if let Some(name) = text.strip_prefix(':') {
-        let name = Name::of(alloc, name.as_bytes()).ok()?;
-        return Some(Value::Sym(Symbol::new(name)?));
+        return symbol_of(alloc, name);
     }
     if let Some(text) = text.strip_prefix('"') {
         let text = text.strip_suffix('"')?;
         return Some(Value::Text(Name::of(alloc, text.as_bytes()).ok()?));
     }
-    if let Some((n, d)) = text.split_once('/') {
-        let fraction = Frac::new(n.parse::<i64>().ok()?, d.parse::<i64>().ok()?);
-        return Some(Value::Part(fraction.ok()?));
-    }
-    Some(Value::Whole(Integer::new(text.parse::<i64>().ok()?)?))
+    number_of(text)
+}
+
+fn symbol_of(alloc: Global, name: &str) -> Option<Value> {
+    let name = Name::of(alloc, name.as_bytes()).ok()?;
+    Some(Value::Sym(Symbol::new(name)?))
+}
+
+fn number_of(text: &str) -> Option<Value> {
+    let Some((n, d)) = text.split_once('/') else {
+        return Some(Value::Whole(Integer::new(text.parse::<i64>().ok()?)?));
+    };
+    let fraction = Frac::new(n.parse::<i64>().ok()?, d.parse::<i64>().ok()?);
+    Some(Value::Part(fraction.ok()?))
 }

@@ -1,21 +1,52 @@
 //! The tables of calls, notes, scales and chords.
 
-use std::alloc::Global;
-use std::test::Fail;
-use vt_table::{CALL_COUNT, CallName, NameTable, Need, call_of, chord_of, note_of, scale_of};
+use vt_table::{
+    CALL_COUNT, CallName, CallRow, NameTable, Need, call_of, chord_of, note_of, scale_of,
+};
+
+/// Names, each with its row in a table of four, ` => ` and `none` where the table has it not.
+const FOUND: &str = "\
+abc => 2
+ => 0
+b => 3
+a => none
+abcd => none
+ac => none
+B => none
+c => none
+";
+
+fn row_of_four(name: &[u8]) -> Option<u16> {
+    let table: NameTable<4> = NameTable::of([b"", b"ab", b"abc", b"b"]);
+    table.find(name)
+}
+
+fn row_of_one(name: &[u8]) -> Option<u16> {
+    let table: NameTable<1> = NameTable::of([b"x"]);
+    table.find(name)
+}
+
+fn is_found(row: &str) -> Option<bool> {
+    let (name, want) = row.split_once(" => ")?;
+    match row_of_four(name.as_bytes()) {
+        Some(at) => Some(at == want.parse::<u16>().ok()?),
+        None => Some(want == "none"),
+    }
+}
+
+fn wrong_row() -> Option<&'static str> {
+    for row in FOUND.lines() {
+        if is_found(row) != Some(true) {
+            return Some(row);
+        }
+    }
+    None
+}
 
 #[test]
 fn a_table_finds_its_names_and_no_others(rt: HostRuntime) {
-    let table: NameTable<4> = NameTable::of([b"", b"ab", b"abc", b"b"]);
-    assert_eq!(rt; table.find(b""), Some(0));
-    assert_eq!(rt; table.find(b"abc"), Some(2));
-    assert_eq!(rt; table.find(b"b"), Some(3));
-    for name in "a abcd ac B c".split(' ') {
-        assert_eq!(rt; table.find(name.as_bytes()), None, "{name}");
-    }
-    let one: NameTable<1> = NameTable::of([b"x"]);
-    assert_eq!(rt; one.find(b"x"), Some(0));
-    assert_eq!(rt; one.find(b"y"), None);
+    assert_eq!(rt; wrong_row(), None);
+    assert!(rt; row_of_one(b"x") == Some(0) && row_of_one(b"y").is_none());
 }
 
 fn block_word(block: Need) -> &'static str {
@@ -26,16 +57,40 @@ fn block_word(block: Need) -> &'static str {
     }
 }
 
-/// The row of a call in words; `none` where no call has the name.
-fn call_text(alloc: Global, name: &str) -> Result<String, Fail> {
-    let Some(row) = call_of(name.as_bytes()) else {
-        return Ok(format!(in alloc; "none")?);
-    };
-    let (least, most) = (row.least, row.most);
-    let block = block_word(row.block);
-    let dot = if row.dot { "by a dot" } else { "alone" };
-    let effect = if row.effect { ", effects" } else { "" };
-    Ok(format!(in alloc; "{least} to {most}, {block}, {dot}{effect}")?)
+fn dot_word(dot: bool) -> &'static str {
+    if dot { "by a dot" } else { "alone" }
+}
+
+fn effect_word(effect: bool) -> &'static str {
+    if effect { "effects" } else { "" }
+}
+
+/// Whether these are the least and the most count of arguments.
+fn are_counts(row: CallRow, counts: &str) -> Option<bool> {
+    let (least, most) = counts.split_once(" to ")?;
+    Some(least.parse::<u8>().ok()? == row.least && most.parse::<u8>().ok()? == row.most)
+}
+
+/// Whether these words tell where a call stands and whether it has effects.
+fn is_placed(row: CallRow, place: &str) -> bool {
+    let (dot, effect) = place.split_once(", ").unwrap_or((place, ""));
+    dot == dot_word(row.dot) && effect == effect_word(row.effect)
+}
+
+/// Whether the row of a call is this, in words.
+fn is_row(row: CallRow, want: &str) -> Option<bool> {
+    let (counts, rest) = want.split_once(", ")?;
+    let (block, place) = rest.split_once(", ")?;
+    Some(block == block_word(row.block) && is_placed(row, place) && are_counts(row, counts)?)
+}
+
+/// Whether a call has the row that is told of it; `none` where no call has the name.
+fn call_holds(line: &str) -> Option<bool> {
+    let (name, want) = line.split_once(": ")?;
+    match call_of(name.as_bytes()) {
+        Some(row) => is_row(row, want),
+        None => Some(want == "none"),
+    }
 }
 
 const CALLS: &str = "\
@@ -98,19 +153,30 @@ zip: none
 rand-i: none
 ";
 
-#[test]
-fn calls_have_their_rows(rt: HostRuntime) -> Result<(), Fail> {
+/// The first row that does not hold, or nothing.
+fn wrong_call() -> Option<&'static str> {
     for row in CALLS.lines() {
-        let (name, want) = row.split_once(": ").ok_or("no answer")?;
-        assert_eq!(rt; call_text(rt.alloc(), name)?.as_str(), want, "{name}");
+        if call_holds(row) != Some(true) {
+            return Some(row);
+        }
     }
-    assert_eq!(rt;
-        call_of(b"map").map(|row| CallName::of_number(row.number)),
-        Some(CallName::Map)
-    );
+    None
+}
+
+#[test]
+fn calls_have_their_rows(rt: HostRuntime) {
+    assert_eq!(rt; wrong_call(), None);
+}
+
+fn call_named(name: &[u8]) -> Option<CallName> {
+    Some(CallName::of_number(call_of(name)?.number))
+}
+
+#[test]
+fn calls_are_numbered_from_first_to_last(rt: HostRuntime) {
+    assert!(rt; call_named(b"map") == Some(CallName::Map));
     assert_eq!(rt; CallName::Abs.number(), 0);
     assert_eq!(rt; CallName::WithSynth.number() as usize, CALL_COUNT - 1);
-    Ok(())
 }
 
 /// Each note of the fourth octave, which needs no number, and of octave 0; and other spellings.
@@ -158,31 +224,63 @@ bs9 => 132
 
 const NO_NOTES: &str = "|h|H4|c#|c10|cbb|cs10|c44|4|4c|r|rest|c |c-1|sb|c4s";
 
-#[test]
-fn notes_have_their_midi_numbers(rt: HostRuntime) -> Result<(), Fail> {
-    for row in NOTES.lines() {
-        let (name, want) = row.split_once(" => ").ok_or("no answer")?;
-        assert_eq!(rt; note_of(name.as_bytes()), want.parse::<i64>().ok(), "{row}");
-    }
-    for name in NO_NOTES.split('|') {
-        assert_eq!(rt; note_of(name.as_bytes()), None, "{name}");
-    }
-    Ok(())
+fn is_note(row: &str) -> Option<bool> {
+    let (name, want) = row.split_once(" => ")?;
+    Some(note_of(name.as_bytes())? == want.parse::<i64>().ok()?)
 }
 
-/// The numbers, each behind a blank; `none` where there are none.
-fn steps_text(alloc: Global, steps: Option<&[u8]>) -> Result<String, Fail> {
-    let mut text = String::new(alloc);
-    let Some(steps) = steps else {
-        text.push_str(" none")?;
-        return Ok(text);
-    };
-    for step in steps {
-        let digits = step.to_string(alloc)?;
-        text.push_str(" ")?;
-        text.push_str(digits.as_str())?;
+fn wrong_note() -> Option<&'static str> {
+    for row in NOTES.lines() {
+        if is_note(row) != Some(true) {
+            return Some(row);
+        }
     }
-    Ok(text)
+    None
+}
+
+/// The first name that is a note and should be none, or nothing.
+fn wrong_no_note() -> Option<&'static str> {
+    for name in NO_NOTES.split('|') {
+        if note_of(name.as_bytes()).is_some() {
+            return Some(name);
+        }
+    }
+    None
+}
+
+#[test]
+fn notes_have_their_midi_numbers(rt: HostRuntime) {
+    assert_eq!(rt; wrong_note(), None);
+    assert_eq!(rt; wrong_no_note(), None);
+}
+
+/// Whether these are the numbers; `none` where there are none.
+fn are_steps(steps: Option<&[u8]>, want: &str) -> bool {
+    match steps {
+        Some(steps) => are_numbers(steps, want),
+        None => want == "none",
+    }
+}
+
+fn are_numbers(numbers: &[u8], want: &str) -> bool {
+    let mut left = numbers;
+    for word in want.split(' ') {
+        match left.split_first() {
+            Some((first, rest)) if word.parse::<u8>().ok() == Some(*first) => left = rest,
+            _ => return false,
+        }
+    }
+    left.is_empty()
+}
+
+fn scale_holds(row: &str) -> Option<bool> {
+    let (name, want) = row.split_once(": ")?;
+    Some(are_steps(scale_of(name.as_bytes()), want))
+}
+
+fn chord_holds(row: &str) -> Option<bool> {
+    let (name, want) = row.split_once(": ")?;
+    Some(are_steps(chord_of(name.as_bytes()), want))
 }
 
 const SCALES: &str = "\
@@ -224,23 +322,26 @@ Major: none
 m9: none
 ";
 
-#[test]
-fn scales_and_chords_have_their_half_tones(rt: HostRuntime) -> Result<(), Fail> {
+fn wrong_scale() -> Option<&'static str> {
     for row in SCALES.lines() {
-        let (name, want) = row.split_once(':').ok_or("no steps")?;
-        assert_eq!(rt;
-            steps_text(rt.alloc(), scale_of(name.as_bytes()))?.as_str(),
-            want,
-            "{name}"
-        );
+        if scale_holds(row) != Some(true) {
+            return Some(row);
+        }
     }
+    None
+}
+
+fn wrong_chord() -> Option<&'static str> {
     for row in CHORDS.lines() {
-        let (name, want) = row.split_once(':').ok_or("no steps")?;
-        assert_eq!(rt;
-            steps_text(rt.alloc(), chord_of(name.as_bytes()))?.as_str(),
-            want,
-            "{name}"
-        );
+        if chord_holds(row) != Some(true) {
+            return Some(row);
+        }
     }
-    Ok(())
+    None
+}
+
+#[test]
+fn scales_and_chords_have_their_half_tones(rt: HostRuntime) {
+    assert_eq!(rt; wrong_scale(), None);
+    assert_eq!(rt; wrong_chord(), None);
 }

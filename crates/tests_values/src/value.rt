@@ -1,52 +1,15 @@
 //! Values, arithmetic and comparison on them, and their text.
 //!
-//! A row is an operator between two values, ` => ` and the text of the answer, or the word of a fault. A fraction of a row
-//! has its denominator, also where that is 1; the items of a ring are no rings and no texts with a comma.
+//! A row is an operator between two values, ` => ` and the answer, or the word of a fault, spelled as `reader` says.
 
-use std::alloc::{AllocGlobal, Global};
-use std::process::Abort;
+use crate::answers::{is_told, is_written};
+use crate::reader::{arguments_of, value_of};
+use std::alloc::Global;
 use std::test::Fail;
 use vt_frac::{Frac, Name};
 use vt_value::{
-    ArithOp, FaultKind, Integer, Items, OrderOp, Symbol, Value, ValueFault, arith, compare, sizes,
+    ArithOp, FaultKind, Integer, Items, OrderOp, Value, ValueFault, arith, compare, sizes,
 };
-
-/// A value that is no ring.
-fn plain_of(alloc: Global, text: &str) -> Option<Value> {
-    if text == "nil" {
-        return Some(Value::Nil);
-    }
-    if let Ok(truth) = text.parse::<bool>() {
-        return Some(Value::Bool(truth));
-    }
-    if let Some(name) = text.strip_prefix(':') {
-        let name = Name::of(alloc, name.as_bytes()).ok()?;
-        return Some(Value::Sym(Symbol::new(name)?));
-    }
-    if let Some(text) = text.strip_prefix('"') {
-        let text = text.strip_suffix('"')?;
-        return Some(Value::Text(Name::of(alloc, text.as_bytes()).ok()?));
-    }
-    if let Some((n, d)) = text.split_once('/') {
-        let fraction = Frac::new(n.parse::<i64>().ok()?, d.parse::<i64>().ok()?);
-        return Some(Value::Part(fraction.ok()?));
-    }
-    Some(Value::Whole(Integer::new(text.parse::<i64>().ok()?)?))
-}
-
-fn value_of(alloc: Global, text: &str) -> Option<Value> {
-    let Some(inside) = text.strip_prefix('[') else {
-        return plain_of(alloc, text);
-    };
-    let inside = inside.strip_suffix(']')?;
-    let mut items = Items::new(alloc);
-    if !inside.is_empty() {
-        for item in inside.split(", ") {
-            items.push(plain_of(alloc, item)?).ok()?;
-        }
-    }
-    Some(Value::Ring(items))
-}
 
 fn arith_op(word: &str) -> Option<ArithOp> {
     if word == "+" {
@@ -83,48 +46,48 @@ fn order_op(word: &str) -> Option<OrderOp> {
     None
 }
 
-/// What the operator gives, or `None` where it is none.
-fn answer_of(alloc: Global, a: &Value, word: &str, b: &Value) -> Option<Result<Value, ValueFault>> {
-    if word == "is" {
-        return Some(Ok(Value::Bool(a.same(b))));
-    }
-    if let Some(op) = arith_op(word) {
-        return Some(arith(alloc, op, a, b));
-    }
-    let op = order_op(word)?;
+fn truth_word(holds: bool) -> &'static str {
+    if holds { "true" } else { "false" }
+}
+
+/// What a comparison tells.
+fn order_word(op: OrderOp, a: &Value, b: &Value) -> &'static str {
     match compare(op, a, b) {
-        Ok(holds) => Some(Ok(Value::Bool(holds))),
-        Err(kind) => Some(Err(ValueFault::Fault(kind))),
+        Ok(holds) => truth_word(holds),
+        Err(kind) => kind.word(),
     }
 }
 
-fn answer_text(alloc: Global, answer: Result<Value, ValueFault>) -> Result<String, Fail> {
-    match answer {
-        Ok(value) => {
-            let mut text = Vec::new(alloc);
-            value.write(alloc, &mut text)?;
-            Ok(String::from_utf8(text)?)
-        }
-        Err(fault) => Ok(format!(in alloc; "{fault}")?),
+/// Whether the operator gives this.
+fn gives(alloc: Global, a: &Value, word: &str, b: &Value, want: &str) -> Option<bool> {
+    if word == "is" {
+        return Some(truth_word(a.same(b)) == want);
     }
+    if let Some(op) = order_op(word) {
+        return Some(order_word(op, a, b) == want);
+    }
+    let op = arith_op(word)?;
+    Some(is_told(alloc, &arith(alloc, op, a, b), want))
 }
 
-/// The text of the answer of a row, or `None` where the row is none.
-fn row_answer(alloc: Global, call: &str) -> Option<Result<Value, ValueFault>> {
+/// Whether the operator of a row gives what the row says.
+fn holds(alloc: Global, row: &str) -> Option<bool> {
+    let (call, want) = row.split_once(" => ")?;
     let (a, rest) = call.split_once(' ')?;
     let (word, b) = rest.split_once(' ')?;
-    let (a, b) = (value_of(alloc, a)?, value_of(alloc, b)?);
-    answer_of(alloc, &a, word, &b)
+    let a = value_of(alloc, a)?;
+    let b = value_of(alloc, b)?;
+    gives(alloc, &a, word, &b, want)
 }
 
-fn check<X: AllocGlobal + Abort>(rt: &X, rows: &str) -> Result<(), Fail> {
+/// The first row that does not hold, or nothing.
+fn first_wrong(alloc: Global, rows: &str) -> Option<&str> {
     for row in rows.lines() {
-        let (call, want) = row.split_once(" => ").ok_or("no answer")?;
-        let answer = row_answer(rt.alloc(), call).ok_or("no row")?;
-        let text = answer_text(rt.alloc(), answer)?;
-        assert_eq!(rt; text.as_str(), want, "{row}");
+        if holds(alloc, row) != Some(true) {
+            return Some(row);
+        }
     }
-    Ok(())
+    None
 }
 
 const NUMBERS: &str = "\
@@ -152,7 +115,7 @@ const NUMBERS: &str = "\
 7 / 2/1 => 7/2
 7/1 / 2 => 7/2
 1 + 1/2 => 3/2
-1/2 + 1/2 => 1
+1/2 + 1/2 => 1/1
 -1/2 * 3 => -3/2
 7/2 % 2 => 3/2
 -7/2 % 2 => 1/2
@@ -216,9 +179,9 @@ true is false => false
 ";
 
 #[test]
-fn operators_on_values(rt: HostRuntime) -> Result<(), Fail> {
-    check(&rt, NUMBERS)?;
-    check(&rt, OTHERS)
+fn operators_on_values(rt: HostRuntime) {
+    assert_eq!(rt; first_wrong(rt.alloc(), NUMBERS), None);
+    assert_eq!(rt; first_wrong(rt.alloc(), OTHERS), None);
 }
 
 /// A value as it is read, its text, its size, and whether it counts as true.
@@ -244,146 +207,272 @@ false => false, 1, false
 [\"a\", :x, 1/2, nil] => [\"a\", :x, 1/2, nil], 5, true
 ";
 
-/// A copy of the value of a row: its text, its size, and whether it counts as true.
-fn described(alloc: Global, text: &str) -> Result<String, Fail> {
-    let value = value_of(alloc, text).ok_or("no value")?.copy(alloc)?;
-    let (size, truth) = (value.size(), value.truthy());
-    let text = answer_text(alloc, Ok(value))?;
-    Ok(format!(in alloc; "{text}, {size}, {truth}")?)
+/// Whether the text of a copy of the value is this.
+fn is_copied(alloc: Global, value: &Value, want: &str) -> bool {
+    match value.copy(alloc) {
+        Ok(copied) => is_written(alloc, &copied, want),
+        Err(_) => false,
+    }
+}
+
+/// Whether a copy of the value of a row has its text, and the value its size and its truth.
+fn is_described(alloc: Global, row: &str) -> Option<bool> {
+    let (text, want) = row.split_once(" => ")?;
+    let (want, truth) = want.rsplit_once(", ")?;
+    let (want, size) = want.rsplit_once(", ")?;
+    let size = size.parse::<u64>().ok()?;
+    let value = value_of(alloc, text)?;
+    let is_sized = value.size() == size && truth_word(value.truthy()) == truth;
+    Some(is_sized && is_copied(alloc, &value, want))
+}
+
+/// The first row that does not hold, or nothing.
+fn wrong_value(alloc: Global) -> Option<&'static str> {
+    for row in VALUES.lines() {
+        if is_described(alloc, row) != Some(true) {
+            return Some(row);
+        }
+    }
+    None
 }
 
 #[test]
-fn values_have_their_text_size_and_truth(rt: HostRuntime) -> Result<(), Fail> {
-    for row in VALUES.lines() {
-        let (text, want) = row.split_once(" => ").ok_or("no answer")?;
-        assert_eq!(rt; described(rt.alloc(), text)?.as_str(), want, "{row}");
+fn values_have_their_text_size_and_truth(rt: HostRuntime) {
+    assert_eq!(rt; wrong_value(rt.alloc()), None);
+}
+
+/// Whether a text with a newline and rings in a ring have their text, which no row can hold.
+fn others_are_written(alloc: Global) -> Option<bool> {
+    let line = Value::Text(Name::of(alloc, b"a\nb").ok()?);
+    let rings = Value::Ring(arguments_of(alloc, "[1, 2], []")?.values);
+    Some(is_written(alloc, &line, "\"a\\nb\"") && is_written(alloc, &rings, "[[1, 2], []]"))
+}
+
+/// Whether numbers are told from what is none, and the whole numbers end where they should.
+fn numbers_are_told(alloc: Global) -> Option<bool> {
+    let half = value_of(alloc, "1/2")?.number();
+    Some(
+        half == Frac::new(1, 2).ok()
+            && Value::Nil.number().is_none()
+            && Integer::new(i64::MIN).is_none(),
+    )
+}
+
+#[test]
+fn texts_of_lines_and_rings_and_numbers_of_values(rt: HostRuntime) {
+    assert_eq!(rt; others_are_written(rt.alloc()), Some(true));
+    assert_eq!(rt; numbers_are_told(rt.alloc()), Some(true));
+}
+
+/// Adds so many values nil.
+fn add_nils(items: &mut Items, count: u32) -> Option<()> {
+    for _ in 0..count {
+        items.push(Value::Nil).ok()?;
     }
-    let line = Value::Text(Name::of(rt.alloc(), b"a\nb")?);
-    assert_eq!(rt; answer_text(rt.alloc(), Ok(line))?.as_str(), "\"a\\nb\"");
-    let mut items = Items::new(rt.alloc());
-    items.push(value_of(rt.alloc(), "[1, 2]").ok_or("no ring")?)?;
-    items.push(value_of(rt.alloc(), "[]").ok_or("no ring")?)?;
-    assert_eq!(rt;
-        answer_text(rt.alloc(), Ok(Value::Ring(items)))?.as_str(),
-        "[[1, 2], []]"
-    );
-    assert!(rt; Integer::new(i64::MIN).is_none());
-    assert!(rt; value_of(rt.alloc(), "1/2").ok_or("no part")?.number() == Frac::new(1, 2).ok());
-    assert!(rt; Value::Nil.number().is_none());
-    Ok(())
+    Some(())
+}
+
+/// Adds so many values nil, a value, and values nil again.
+fn add_between(items: &mut Items, before: u32, value: Value, behind: u32) -> Option<()> {
+    add_nils(items, before)?;
+    items.push(value).ok()?;
+    add_nils(items, behind)
+}
+
+/// The ring of a value with so many values nil before it and behind it.
+fn ring_round(alloc: Global, before: u32, value: Value, behind: u32) -> Option<Value> {
+    let mut items = Items::new(alloc);
+    add_between(&mut items, before, value, behind)?;
+    Some(Value::Ring(items))
 }
 
 /// `levels` rings round the empty ring, each with so many values nil before the ring in it and behind it.
-fn nested(alloc: Global, levels: u32, before: u32, behind: u32) -> Result<Value, Fail> {
+fn nested(alloc: Global, levels: u32, before: u32, behind: u32) -> Option<Value> {
     let mut value = Value::Ring(Items::new(alloc));
     for _ in 0..levels {
-        let mut items = Items::new(alloc);
-        for _ in 0..before {
-            items.push(Value::Nil)?;
-        }
-        items.push(value)?;
-        for _ in 0..behind {
-            items.push(Value::Nil)?;
-        }
-        value = Value::Ring(items);
+        value = ring_round(alloc, before, value, behind)?;
     }
-    Ok(value)
+    Some(value)
 }
 
-/// The sizes of a nested value and of its copy's text, once the copy was found to be the same.
-fn walked(alloc: Global, levels: u32, before: u32, behind: u32) -> Result<(u64, usize), Fail> {
-    let value = nested(alloc, levels, before, behind)?;
-    let copied = value.copy(alloc)?;
-    let mut text = Vec::new(alloc);
-    copied.write(alloc, &mut text)?;
+/// Whether the value has this size, a copy of it is the same, and its text has this length.
+fn is_walked(alloc: Global, value: &Value, want: &str) -> Option<bool> {
+    let (size, length) = want.split_once(' ')?;
+    let size = size.parse::<u64>().ok()?;
+    let length = length.parse::<usize>().ok()?;
+    Some(value.size() == size && copied_length(alloc, value)? == length)
+}
+
+/// The length of the text of a copy, once the copy was found to be the same.
+fn copied_length(alloc: Global, value: &Value) -> Option<usize> {
+    let copied = value.copy(alloc).ok()?;
     if !value.same(&copied) {
-        return Ok((0, 0));
+        return None;
     }
-    Ok((value.size(), text.len()))
+    text_length(alloc, &copied)
+}
+
+fn text_length(alloc: Global, value: &Value) -> Option<usize> {
+    let mut text = Vec::new(alloc);
+    value.write(alloc, &mut text).ok()?;
+    Some(text.len())
+}
+
+/// How many rings stand round the empty ring, and how many values nil before and behind each ring; the size of the
+/// value, and the length of its text.
+const NESTED: &str = "\
+65535 0 0 => 65536 131072
+32767 1 0 => 65535 229371
+32767 0 1 => 65535 229371
+";
+
+/// The value of three counts.
+fn nested_of(alloc: Global, counts: &str) -> Option<Value> {
+    let (levels, counts) = counts.split_once(' ')?;
+    let (before, behind) = counts.split_once(' ')?;
+    let levels = levels.parse::<u32>().ok()?;
+    nested(
+        alloc,
+        levels,
+        before.parse::<u32>().ok()?,
+        behind.parse::<u32>().ok()?,
+    )
+}
+
+fn nested_holds(alloc: Global, row: &str) -> Option<bool> {
+    let (counts, want) = row.split_once(" => ")?;
+    let value = nested_of(alloc, counts)?;
+    is_walked(alloc, &value, want)
+}
+
+/// The first row that does not hold, or nothing.
+fn wrong_nested(alloc: Global) -> Option<&'static str> {
+    for row in NESTED.lines() {
+        if nested_holds(alloc, row) != Some(true) {
+            return Some(row);
+        }
+    }
+    None
 }
 
 /// Values of size 65,536 or one less: as deep as rings can stand in one another.
 #[test]
-fn deepest_values_are_walked(rt: HostRuntime) -> Result<(), Fail> {
-    assert_eq!(rt; walked(rt.alloc(), 65_535, 0, 0)?, (65_536, 131_072));
-    assert_eq!(rt; walked(rt.alloc(), 32_767, 1, 0)?, (65_535, 229_371));
-    assert_eq!(rt; walked(rt.alloc(), 32_767, 0, 1)?, (65_535, 229_371));
-    Ok(())
+fn deepest_values_are_walked(rt: HostRuntime) {
+    assert_eq!(rt; wrong_nested(rt.alloc()), None);
+}
+
+fn has_two(items: &Items) -> bool {
+    items.len() == 2 && items.get(1).is_some() && items.get(2).is_none() && !items.is_empty()
+}
+
+/// Whether a copy of the items of a ring of three gives back its last, and then the other two.
+fn gives_back(alloc: Global) -> Option<bool> {
+    let ring = value_of(alloc, "[1, 2, 3]")?.into_items()?;
+    let mut items = ring.copy(alloc).ok()?;
+    let last = items.pop()?;
+    let is_last = is_written(alloc, &last, "3");
+    Some(is_last && has_two(&items) && items.into_vec().len() == 2)
 }
 
 #[test]
-fn lists_give_back_what_they_hold(rt: HostRuntime) -> Result<(), Fail> {
-    let ring = value_of(rt.alloc(), "[1, 2, 3]").ok_or("no ring")?;
-    let mut items = ring.into_items().ok_or("no ring")?.copy(rt.alloc())?;
-    let last = items.pop().ok_or("no item")?;
-    assert_eq!(rt; answer_text(rt.alloc(), Ok(last))?.as_str(), "3");
-    assert_eq!(rt; items.len(), 2);
-    assert!(rt; items.get(1).is_some());
-    assert!(rt; items.get(2).is_none());
-    assert!(rt; !items.is_empty());
-    assert_eq!(rt; items.into_vec().len(), 2);
+fn lists_give_back_what_they_hold(rt: HostRuntime) {
+    assert_eq!(rt; gives_back(rt.alloc()), Some(true));
     assert!(rt; Value::Nil.into_items().is_none());
-    Ok(())
 }
 
 /// A ring of so many values nil.
-fn nils(alloc: Global, count: u32) -> Result<Items, Fail> {
+fn nils(alloc: Global, count: u32) -> Option<Items> {
     let mut items = Items::new(alloc);
-    for _ in 0..count {
-        items.push(Value::Nil)?;
-    }
-    Ok(items)
+    add_nils(&mut items, count)?;
+    Some(items)
 }
 
 /// A text of so many bytes.
-fn text_of_length(alloc: Global, length: usize) -> Result<Value, Fail> {
-    let bytes = vec![in alloc; b'a'; length]?;
-    Ok(Value::Text(Name::of(alloc, bytes.as_slice())?))
+fn text_of_length(alloc: Global, length: usize) -> Option<Value> {
+    let mut bytes = Vec::new(alloc);
+    bytes.resize(length, b'a').ok()?;
+    Some(Value::Text(Name::of(alloc, bytes.as_slice()).ok()?))
 }
 
-/// The size of both joined, or the word of the fault.
-fn joined(alloc: Global, a: Value, b: Value) -> Result<String, Fail> {
-    match arith(alloc, ArithOp::Add, &a, &b) {
-        Ok(value) => Ok(format!(in alloc; "{}", value.size())?),
-        Err(fault) => Ok(format!(in alloc; "{fault}")?),
+/// A text of so many bytes, or a ring of so many values nil.
+fn value_of_length(alloc: Global, kind: &str, length: &str) -> Option<Value> {
+    let length = length.parse::<u32>().ok()?;
+    if kind == "text" {
+        return text_of_length(alloc, length as usize);
+    }
+    Some(Value::Ring(nils(alloc, length)?))
+}
+
+/// The lengths of two texts or rings; the size of both joined, or the word of the fault.
+const JOINED: &str = "\
+text 4000 96 => 4096
+text 4000 97 => too_large
+ring 4095 1 => 4097
+ring 4095 2 => too_large
+";
+
+/// Whether both joined have this size, or give this fault.
+fn is_joined(alloc: Global, a: &Value, b: &Value, want: &str) -> bool {
+    match arith(alloc, ArithOp::Add, a, b) {
+        Ok(value) => Some(value.size()) == want.parse::<u64>().ok(),
+        Err(ValueFault::Fault(kind)) => kind.word() == want,
+        Err(ValueFault::NoMemory) => false,
     }
 }
 
-/// Fifteen texts of 4,096 bytes, and so many values nil.
-fn heavy(alloc: Global, count: u32) -> Result<Items, Fail> {
-    let mut items = nils(alloc, count)?;
-    for _ in 0..15 {
-        items.push(text_of_length(alloc, 4_096)?)?;
+fn join_holds(alloc: Global, row: &str) -> Option<bool> {
+    let (call, want) = row.split_once(" => ")?;
+    let (kind, lengths) = call.split_once(' ')?;
+    let (a, b) = lengths.split_once(' ')?;
+    let a = value_of_length(alloc, kind, a)?;
+    let b = value_of_length(alloc, kind, b)?;
+    Some(is_joined(alloc, &a, &b, want))
+}
+
+/// The first row that does not hold, or nothing.
+fn wrong_join(alloc: Global) -> Option<&'static str> {
+    for row in JOINED.lines() {
+        if join_holds(alloc, row) != Some(true) {
+            return Some(row);
+        }
     }
-    Ok(items)
+    None
 }
 
 #[test]
-fn joins_end_at_the_limits(rt: HostRuntime) -> Result<(), Fail> {
-    let alloc = rt.alloc();
-    let short = text_of_length(alloc, 4_000)?;
-    let fits = joined(alloc, short.copy(alloc)?, text_of_length(alloc, 96)?)?;
-    assert_eq!(rt; fits.as_str(), "4096");
-    let long = joined(alloc, short, text_of_length(alloc, 97)?)?;
-    assert_eq!(rt; long.as_str(), "too_large");
-    let most = joined(
-        alloc,
-        Value::Ring(nils(alloc, 4_095)?),
-        Value::Ring(nils(alloc, 1)?),
-    )?;
-    assert_eq!(rt; most.as_str(), "4097");
-    let more = joined(
-        alloc,
-        Value::Ring(nils(alloc, 4_095)?),
-        Value::Ring(nils(alloc, 2)?),
-    )?;
-    assert_eq!(rt; more.as_str(), "too_large");
+fn joins_end_at_the_limits(rt: HostRuntime) {
+    assert_eq!(rt; wrong_join(rt.alloc()), None);
+}
+
+/// So many values nil, and fifteen texts of 4,096 bytes.
+fn heavy(alloc: Global, count: u32) -> Option<Items> {
+    let mut items = nils(alloc, count)?;
+    add_texts(alloc, &mut items)?;
+    Some(items)
+}
+
+fn add_texts(alloc: Global, items: &mut Items) -> Option<()> {
+    for _ in 0..15 {
+        items.push(text_of_length(alloc, 4_096)?).ok()?;
+    }
+    Some(())
+}
+
+fn most_is_held(alloc: Global) -> Option<bool> {
     let full = heavy(alloc, 4_080)?;
-    assert_eq!(rt; sizes(full.as_slice()), 65_520);
-    assert!(rt; Value::of_items(full).is_ok());
+    let size = sizes(full.as_slice());
+    Some(size == 65_520 && Value::of_items(full).is_ok())
+}
+
+fn more_is_refused(alloc: Global) -> Option<bool> {
     let over = heavy(alloc, 4_082)?;
-    assert_eq!(rt; Value::of_items(over).err(), Some(FaultKind::TooLarge));
-    Ok(())
+    Some(Value::of_items(over).err() == Some(FaultKind::TooLarge))
+}
+
+#[test]
+fn rings_end_at_the_limits(rt: HostRuntime) {
+    assert_eq!(rt; most_is_held(rt.alloc()), Some(true));
+    assert_eq!(rt; more_is_refused(rt.alloc()), Some(true));
 }
 
 /// Each fault kind by its word, in a score and in print.

@@ -7,8 +7,9 @@ use Rattle.std.proofs.lemmas.List.Sums.{position_or_len_is, prefix_len-le-length
 use Rattle.std.proofs.lemmas.List.Splits.{slice_split_first}
 use Rattle.std.proofs.Math.ListN.{drop_of_length-le}
 use Rattle.std.proofs.Math.Seq.{take-length}
-use Rattle.vt_cli.specs.Line.{is_blank, is_word, lines_of, words_of}
-use Rattle.vt_cli.specs.private.FirstPart.{BeginsWord, word_and_more}
+use Rattle.vt_lex.specs.Bytes.{is_blank}
+use Rattle.vt_cli.specs.Line.{is_word, lines_of, words_of}
+use Rattle.vt_cli.specs.private.FirstPart.{BeginsLineWord, word_and_more}
 
 pub tail-whole : (n : ℕ) (xs : List ℕ) → take (length xs - n) (drop n xs) ≡ drop n xs
 tail-whole n xs = ap (λ m. take m (drop n xs)) (sym (length-drop n xs)) ∙ take-length (drop n xs)
@@ -55,15 +56,15 @@ skip-words (b ∷ bs) = go (is_blank b) refl (skip-words bs)
     go false blank later = refl
 
 -- and what follows them begins a word, where there is one
-skip-begins : (bs : List ℕ) → BeginsWord (drop (position_or_len (λ byte. not (is_blank byte)) bs) bs)
+skip-begins : (bs : List ℕ) → BeginsLineWord (drop (position_or_len (λ byte. not (is_blank byte)) bs) bs)
 skip-begins [] = tt
 skip-begins (b ∷ bs) = go (is_blank b) refl (skip-begins bs)
   where
-    go : (t : Bool) → is_blank b ≡ t → BeginsWord (drop (position_or_len (λ byte. not (is_blank byte)) bs) bs)
-        → BeginsWord (drop (cond (not (not t)) (1 + position_or_len (λ byte. not (is_blank byte)) bs) 0) (b ∷ bs))
+    go : (t : Bool) → is_blank b ≡ t → BeginsLineWord (drop (position_or_len (λ byte. not (is_blank byte)) bs) bs)
+        → BeginsLineWord (drop (cond (not (not t)) (1 + position_or_len (λ byte. not (is_blank byte)) bs) 0) (b ∷ bs))
     go true blank later =
         let more : suc (position_or_len (λ byte. not (is_blank byte)) bs) ≡ 1 + position_or_len (λ byte. not (is_blank byte)) bs = omega arith in
-        subst (λ n. BeginsWord (drop n (b ∷ bs))) more later
+        subst (λ n. BeginsLineWord (drop n (b ∷ bs))) more later
     go false blank later = blank
 
 passes-at : (p : ℕ → Bool) (xs : List ℕ) (k : ℕ) → position p xs ≡ Some k → position_or_len p xs ≡ k
@@ -73,15 +74,15 @@ passes-at p xs k found =
 pub words-skip : (bs : List ℕ) (k : ℕ) → position (λ byte. not (is_blank byte)) bs ≡ Some k → words_of (drop k bs) ≡ words_of bs
 words-skip bs k found = ap (λ n. words_of (drop n bs)) (sym (passes-at _ bs k found)) ∙ skip-words bs
 
-pub words-begin : (bs : List ℕ) (k : ℕ) → position (λ byte. not (is_blank byte)) bs ≡ Some k → BeginsWord (drop k bs)
-words-begin bs k found = subst (λ n. BeginsWord (drop n bs)) (passes-at _ bs k found) (skip-begins bs)
+pub words-begin : (bs : List ℕ) (k : ℕ) → position (λ byte. not (is_blank byte)) bs ≡ Some k → BeginsLineWord (drop k bs)
+words-begin bs k found = subst (λ n. BeginsLineWord (drop n bs)) (passes-at _ bs k found) (skip-begins bs)
 
 pub words-none : (bs : List ℕ) → position (λ byte. not (is_blank byte)) bs ≡ None → words_of bs ≡ []
 words-none bs none =
     sym (skip-words bs) ∙ ap words_of (ap (λ n. drop n bs) (none-passes _ bs none) ∙ drop_of_length-le bs (omega arith))
 
 -- the first part is the first word, where there is one
-pub words-cut : (k : ℕ) (bs : List ℕ) → BeginsWord bs → position is_blank bs ≡ Some k
+pub words-cut : (k : ℕ) (bs : List ℕ) → BeginsLineWord bs → position is_blank bs ≡ Some k
     → words_of bs ≡ word_and_more (take k bs) (words_of (drop (k + 1) bs))
 words-cut k [] begins found = absurd (let at = position-Some is_blank [] k 0 found in omega (arith, at.0))
 words-cut zero (b ∷ bs) begins found =

@@ -10,12 +10,12 @@ use Rattle.vt_cli.specs.Ending.{ExactlyWhere}
 use Rattle.vt_cli.specs.Piece.{score_of}
 use Rattle.vt_cli.specs.Verdict.{is_good, verdict_of}
 use Rattle.vt_cli.specs.Reading.{limit, part_read}
-use Rattle.vt_cli.specs.Outcome.{Reply, has_fault, outcome_of, within_limit, too_long, answer_to, heard, command_of, outcome, wants_input, IsTooLong, IsFaulty, reports_fault}
+use Rattle.vt_cli.specs.Outcome.{AnswerView, has_fault, outcome_of, within_limit, too_long, answer_to, heard, command_of, outcome, wants_input, IsTooLong, IsFaulty, reports_fault}
 
-pub within-short : (n : ℕ) → (a b : Reply) → n ≤ limit → cond (nat_le n limit) a b ≡ a
+pub within-short : (n : ℕ) → (a b : AnswerView) → n ≤ limit → cond (nat_le n limit) a b ≡ a
 within-short n a b short = grind (arith, common_steps)
 
-pub within-long : (n : ℕ) → (a b : Reply) → limit < n → cond (nat_le n limit) a b ≡ b
+pub within-long : (n : ℕ) → (a b : AnswerView) → limit < n → cond (nat_le n limit) a b ≡ b
 within-long n a b long = grind (arith, common_steps)
 
 -- what is read of an input tells as much as all of it
@@ -34,7 +34,7 @@ outcome-part None input = refl
 outcome-part (Some command) input = part-cases command input (cases_lt limit (length input))
 
 -- the answer to what was read is the outcome of what was there
-pub told : (words : List (List ℕ)) (command : Option Command) (left : Option (List ℕ)) (bytes : List ℕ) (a : Reply) → command ≡ command_of words
+pub told : (words : List (List ℕ)) (command : Option Command) (left : Option (List ℕ)) (bytes : List ℕ) (a : AnswerView) → command ≡ command_of words
     → IfSome left (λ input. bytes ≡ part_read (heard command input)) → a ≡ outcome_of command bytes → IfSome left (λ input. a ≡ outcome words input)
 told words command None bytes a e read made = tt
 told words command (Some x) bytes a e read made =
@@ -65,7 +65,7 @@ too-long-cases : (command : Command) (input : List ℕ) → (limit < length inpu
     → (within_limit input (answer_to command input)).status ≡ TooLong → limit < length input
 too-long-cases command input (inl long) e = long
 too-long-cases command input (inr short) e =
-    absurd (answer-no-too-long command input (sym (ap (λ (o : Reply). o.status) (within-short _ _ too_long short)) ∙ e))
+    absurd (answer-no-too-long command input (sym (ap (λ (o : AnswerView). o.status) (within-short _ _ too_long short)) ∙ e))
 
 too-long-only : (command : Option Command) (input : List ℕ) → (outcome_of command (heard command input)).status ≡ TooLong
     → (wants_input command ≡ true) × (limit < length input)
@@ -76,15 +76,15 @@ too-long-only (Some Check) input e = (refl, too-long-cases Check input (cases_lt
 too-long-always : (command : Option Command) (input : List ℕ) → (wants_input command ≡ true) × (limit < length input)
     → (outcome_of command (heard command input)).status ≡ TooLong
 too-long-always None input held = absurd (let wrong : false ≡ true = held.0 in cc)
-too-long-always (Some Render) input held = ap (λ (o : Reply). o.status) (within-long _ _ too_long held.1)
-too-long-always (Some Check) input held = ap (λ (o : Reply). o.status) (within-long _ _ too_long held.1)
+too-long-always (Some Render) input held = ap (λ (o : AnswerView). o.status) (within-long _ _ too_long held.1)
+too-long-always (Some Check) input held = ap (λ (o : AnswerView). o.status) (within-long _ _ too_long held.1)
 
-pub too-long-clause : (words : List (List ℕ)) (left : Option (List ℕ)) (a : Reply) (result : Status)
+pub too-long-clause : (words : List (List ℕ)) (left : Option (List ℕ)) (a : AnswerView) (result : Status)
     → IfSome left (λ input. a ≡ outcome words input) → (result ≡ a.status) ⊎ (result ≡ WriteFault)
     → IfSome left (λ input. ExactlyWhere result TooLong (IsTooLong words input))
 too-long-clause words None a result made ends = tt
 too-long-clause words (Some input) a result made ends =
-    let due : a.status ≡ (outcome words input).status = ap (λ (o : Reply). o.status) made in
+    let due : a.status ≡ (outcome words input).status = ap (λ (o : AnswerView). o.status) made in
     exact result a.status TooLong _ (λ e. (let wrong : TooLong ≡ WriteFault = e in cc)) ends
     (λ e. too-long-only (command_of words) input (sym due ∙ e))
     (λ held. due ∙ too-long-always (command_of words) input held)
@@ -113,9 +113,9 @@ faulty-answer Check input held = faulty-verdict (is_good (verdict_of input)) hel
 faulty-cases : (command : Command) (input : List ℕ) → (limit < length input) ⊎ (length input ≤ limit)
     → (within_limit input (answer_to command input)).status ≡ Faulty → (length input ≤ limit) × (reports_fault command input ≡ true)
 faulty-cases command input (inl long) e =
-    absurd (let wrong : TooLong ≡ Faulty = sym (ap (λ (o : Reply). o.status) (within-long _ (answer_to command input) too_long long)) ∙ e in cc)
+    absurd (let wrong : TooLong ≡ Faulty = sym (ap (λ (o : AnswerView). o.status) (within-long _ (answer_to command input) too_long long)) ∙ e in cc)
 faulty-cases command input (inr short) e =
-    (short, answer-faulty command input (sym (ap (λ (o : Reply). o.status) (within-short _ _ too_long short)) ∙ e))
+    (short, answer-faulty command input (sym (ap (λ (o : AnswerView). o.status) (within-short _ _ too_long short)) ∙ e))
 
 faulty-only : (command : Option Command) (input : List ℕ) → (outcome_of command (heard command input)).status ≡ Faulty
     → IsSomeAnd command (λ k. (length (heard command input) ≤ limit) × (reports_fault k (heard command input) ≡ true))
@@ -127,19 +127,19 @@ faulty-always : (command : Option Command) (input : List ℕ)
     → (outcome_of command (heard command input)).status ≡ Faulty
 faulty-always None input held = absurd held
 faulty-always (Some command) input held =
-    ap (λ (o : Reply). o.status) (within-short _ _ too_long held.0) ∙ faulty-answer command (heard (Some command) input) held.1
+    ap (λ (o : AnswerView). o.status) (within-short _ _ too_long held.0) ∙ faulty-answer command (heard (Some command) input) held.1
 
-pub faulty-clause : (words : List (List ℕ)) (left : Option (List ℕ)) (a : Reply) (result : Status)
+pub faulty-clause : (words : List (List ℕ)) (left : Option (List ℕ)) (a : AnswerView) (result : Status)
     → IfSome left (λ input. a ≡ outcome words input) → (result ≡ a.status) ⊎ (result ≡ WriteFault)
     → IfSome left (λ input. ExactlyWhere result Faulty (IsFaulty words input))
 faulty-clause words None a result made ends = tt
 faulty-clause words (Some input) a result made ends =
-    let due : a.status ≡ (outcome words input).status = ap (λ (o : Reply). o.status) made in
+    let due : a.status ≡ (outcome words input).status = ap (λ (o : AnswerView). o.status) made in
     exact result a.status Faulty _ (λ e. (let wrong : Faulty ≡ WriteFault = e in cc)) ends
     (λ e. faulty-only (command_of words) input (sym due ∙ e))
     (λ held. due ∙ faulty-always (command_of words) input held)
 
 -- an answer to some bytes is the outcome of some input
-pub some-input : (words : List (List ℕ)) (command : Option Command) (bytes : List ℕ) (a : Reply) → command ≡ command_of words
+pub some-input : (words : List (List ℕ)) (command : Option Command) (bytes : List ℕ) (a : AnswerView) → command ≡ command_of words
     → bytes ≡ heard command bytes → a ≡ outcome_of command bytes → (input : List ℕ) × (a ≡ outcome words input)
 some-input words command bytes a e same made = (bytes, made ∙ ap (outcome_of command) same ∙ ap (λ k. outcome_of k (heard k bytes)) e)

@@ -39,11 +39,11 @@ abbrev pub AppendsPart : Option (List ℕ) → Option (List ℕ) → List ℕ �
 AppendsPart old new text = (n : ℕ) × (n < length text) × Appends old new (take n text)
 
 -- the whole answer was formed, and what is left to go wrong is the write
-abbrev pub IsFormed : Status → Type 0
-IsFormed Fine = Unit {0}
-IsFormed Usage = Unit {0}
-IsFormed TooLong = Unit {0}
-IsFormed ReadFault = ⊥
-IsFormed WriteFault = Unit {0}
-IsFormed NoMemory = ⊥
-IsFormed Faulty = Unit {0}
+abbrev pub IsAnswerFormed : Status → Type 0
+IsAnswerFormed Fine = Unit {0}
+IsAnswerFormed Usage = Unit {0}
+IsAnswerFormed TooLong = Unit {0}
+IsAnswerFormed ReadFault = ⊥
+IsAnswerFormed WriteFault = Unit {0}
+IsAnswerFormed NoMemory = ⊥
+IsAnswerFormed Faulty = Unit {0}

@@ -1,20 +1,17 @@
 -- What a line of a piece says. Own.
-use Rattle.std.specs.Prelude.{ℕ, ◌==◌, ◌&&◌, ◌||◌, Bool, true, false, if◌then◌else◌, List, [], ◌∷◌, Result, Ok, Err, codes, filter}
+use Rattle.std.specs.Prelude.{ℕ, ◌==◌, ◌&&◌, Bool, true, false, if◌then◌else◌, List, [], ◌∷◌, Result, Ok, Err, codes, filter}
 use Rattle.std.specs.List.{slice_split}
 use Rattle.std.specs.Str.{bytes_eq}
 use Rattle.vt_frac.specs.Fraction.{Fraction}
 use Rattle.vt_frac.specs.Decimal.{are_digits, decimal_of}
 use Rattle.vt_frac.specs.declared.fault.DecimalFault.{DecimalFault}
+use Rattle.vt_lex.specs.Bytes.{is_blank}
 use Rattle.vt_cli.specs.declared.line.Line.{Line}
 use Rattle.vt_cli.specs.declared.line.Line.TheVariants.{Nothing, Play, Sleep, Refused}
 
 -- a newline ends a line
 abbrev pub is_newline : ℕ → Bool
 is_newline b = b == 10
-
--- a space, a tab or a carriage return
-abbrev pub is_blank : ℕ → Bool
-is_blank b = (b == 32) || (b == 9) || (b == 13)
 
 -- the lines of a text: what stands before, between and after its newlines
 abbrev pub lines_of : List ℕ → List (List ℕ)

@@ -16,7 +16,7 @@ use Rattle.vt_cli.specs.declared.verdict.Verdict.{Verdict}
 use Rattle.vt_cli.specs.Verdict.{is_good, verdict_of, verdict_text}
 
 -- what a run comes to
-pub record Reply : Type 0 where
+pub record AnswerView : Type 0 where
   pub status : Status
   pub text : List ℕ
 
@@ -31,12 +31,12 @@ abbrev pub reads : Command → Bool
 reads Render = true
 reads Check = true
 
--- the reply to words that are no command
-abbrev pub usage : Reply
+-- the answer to words that are no command
+abbrev pub usage : AnswerView
 usage = record { status = Usage; text = codes "usage: render, check or gen, then pairs --name value" ++ newline }
 
--- the reply to an input above the limit
-abbrev pub too_long : Reply
+-- the answer to an input above the limit
+abbrev pub too_long : AnswerView
 too_long = record { status = TooLong; text = codes "too long" ++ newline }
 
 -- the event is a fault
@@ -49,20 +49,20 @@ abbrev pub has_fault : Score → Bool
 has_fault score = list_any (λ event. is_fault event.kind) score.events
 
 -- the score of a piece, with the status that tells whether it holds a fault
-abbrev pub rendered : Score → Reply
+abbrev pub rendered : Score → AnswerView
 rendered score = record { status = if has_fault score then Faulty else Fine; text = score_text_of score }
 
 -- the line that tells the verdict on a text, with the status that tells whether it is refused
-abbrev pub checked : Verdict → Reply
+abbrev pub checked : Verdict → AnswerView
 checked verdict = record { status = if is_good verdict then Fine else Faulty; text = verdict_text verdict }
 
 -- what a command answers to an input within the limit
-abbrev pub answer_to : Command → List ℕ → Reply
+abbrev pub answer_to : Command → List ℕ → AnswerView
 answer_to Render input = rendered (score_of input)
 answer_to Check input = checked (verdict_of input)
 
 -- an answer is given to an input within the limit alone
-abbrev pub within_limit : List ℕ → Reply → Reply
+abbrev pub within_limit : List ℕ → AnswerView → AnswerView
 within_limit input answer = if nat_le (length input) limit then answer else too_long
 
 -- whether the words ask for the input
@@ -75,12 +75,12 @@ abbrev pub heard : Option Command → List ℕ → List ℕ
 heard command input = if wants_input command then input else []
 
 -- what a command, or none, comes to on what counts of the input
-abbrev pub outcome_of : Option Command → List ℕ → Reply
+abbrev pub outcome_of : Option Command → List ℕ → AnswerView
 outcome_of None input = usage
 outcome_of (Some command) input = within_limit input (answer_to command input)
 
 -- one status and one text, for every list of words and every input
-abbrev pub outcome : List (List ℕ) → List ℕ → Reply
+abbrev pub outcome : List (List ℕ) → List ℕ → AnswerView
 outcome words input = outcome_of (command_of words) (heard (command_of words) input)
 
 -- the words ask for the input, and it is longer than allowed

@@ -1,7 +1,7 @@
 -- The words of the command line as the program has them, and what of them counts. Own.
 use Rattle.std.specs.Prelude.{ℕ, List, map, String, string_bytes, ◌≡◌, true, false, None}
 use Rattle.std.specs.declared.alloc.Global.{Global}
-use Rattle.vt_cli.specs.Outcome.{Reply, command_of, outcome, wants_input, IsFaulty, IsTooLong}
+use Rattle.vt_cli.specs.Outcome.{AnswerView, command_of, outcome, wants_input, IsFaulty, IsTooLong}
 
 -- the words after the program's name
 abbrev pub Words : Type 0
@@ -12,7 +12,7 @@ abbrev pub bytes_of : Words → List (List ℕ)
 bytes_of words = map string_bytes words
 
 -- the one status and the one text of the words and an input
-abbrev pub outcome_of_words : Words → List ℕ → Reply
+abbrev pub outcome_of_words : Words → List ℕ → AnswerView
 outcome_of_words words input = outcome (bytes_of words) input
 
 -- the words are no command

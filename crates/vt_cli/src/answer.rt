@@ -1,7 +1,7 @@
 //! What the words and the input come to, whole in memory.
 ghost use Rattle.std.specs.Prelude.{◌≡◌, ◌≤◌, IfOk, length};
 ghost use Rattle.std.specs.List.{list_any};
-ghost use Rattle.vt_cli.specs.Outcome.{Reply, answer_to, is_fault, outcome_of, rendered};
+ghost use Rattle.vt_cli.specs.Outcome.{AnswerView, answer_to, is_fault, outcome_of, rendered};
 ghost use Rattle.vt_cli.specs.Reading.{limit};
 
 use crate::piece::score_of;
@@ -22,7 +22,7 @@ pub struct Answer {
 }
 
 impl Model for Answer {
-    ghost Value = { Reply };
+    ghost Value = { AnswerView };
 
     ghost view = { λ answer. record { status = answer.status; text = answer.text.items } };
 }

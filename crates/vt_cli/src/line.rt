@@ -1,11 +1,12 @@
 //! The lines of a piece, and what each says.
 ghost use Rattle.std.specs.Prelude.{◌≡◌, ◌+◌, ◌≤◌, ◌<◌, ◌∷◌, ◌++◌, [], length, map, not, position, vec_len, IfOk, IfSome};
 ghost use Rattle.std.specs.Option.{option_copied};
-ghost use Rattle.vt_cli.specs.Line.{is_blank, is_newline, line_of, lines_of, play_of, said, sleep_of, words_of};
+ghost use Rattle.vt_cli.specs.Line.{is_newline, line_of, lines_of, play_of, said, sleep_of, words_of};
 ghost use Rattle.std.specs.Char.{is_ascii_digit};
 ghost use Rattle.std.specs.List.{list_all};
 ghost use Rattle.vt_frac.specs.Decimal.{are_digits};
-ghost use Rattle.vt_cli.specs.private.FirstPart.{BeginsWord, line_and_more, word_and_more};
+ghost use Rattle.vt_lex.specs.Bytes.{is_blank};
+ghost use Rattle.vt_cli.specs.private.FirstPart.{BeginsLineWord, line_and_more, word_and_more};
 
 use std::alloc::Global;
 use vt_frac::{DecimalFault, Frac, NoMemory};
@@ -57,7 +58,7 @@ fn first_newline(text: &[u8]) -> Option<usize>
 /// What stands from the first byte on that is no blank.
 fn skip_blanks(line: &[u8]) -> &[u8]
     ensures words { words_of result.now ≡ words_of line.now }
-    ensures begins { BeginsWord result.now }
+    ensures begins { BeginsLineWord result.now }
 {
     match first_filled(line) {
         Some(start) => &line[start..],
@@ -97,8 +98,8 @@ fn sleep_of(number: Result<Frac, DecimalFault>) -> Line
     }
 }
 
-/// Whether a word is digits alone, at least one.
-fn are_digits(word: &[u8]) -> bool
+/// Whether a word of a line is digits alone, at least one.
+fn are_line_digits(word: &[u8]) -> bool
     ensures { result ≡ are_digits word.now }
 {
     !word.is_empty() && all_digits(word)
@@ -114,7 +115,7 @@ fn all_digits(word: &[u8]) -> bool
 fn said(verb: &[u8], operand: &[u8]) -> Line
     ensures { result ≡ said verb.now operand.now }
 {
-    if verb == b"play".as_slice() && are_digits(operand) {
+    if verb == b"play".as_slice() && are_line_digits(operand) {
         play_of(Frac::read_decimal(operand))
     } else if verb == b"sleep".as_slice() {
         sleep_of(Frac::read_decimal(operand))

@@ -3,8 +3,8 @@ ghost use Rattle.std.specs.Prelude.{List, ℕ, ◌≡◌, ◌≤◌, ◌<◌, �
 ghost use Rattle.std.specs.Io.KnownBytes.{Appends};
 ghost use Rattle.vt_io.specs.Faults.{HasCause, Rose};
 ghost use Rattle.vt_cli.specs.Reading.{limit, part_read, part_left, ReadsNoFurther};
-ghost use Rattle.vt_cli.specs.Ending.{AppendsPart, IsDecided, IsFormed, ExactlyWhere};
-ghost use Rattle.vt_cli.specs.Outcome.{Reply, wants_input, usage, heard};
+ghost use Rattle.vt_cli.specs.Ending.{AppendsPart, IsDecided, IsAnswerFormed, ExactlyWhere};
+ghost use Rattle.vt_cli.specs.Outcome.{AnswerView, wants_input, usage, heard};
 ghost use Rattle.vt_cli.specs.Words.{HaveFaultyAnswer, IsNoCommand, WantInput, WantNoInput, WantTooMuch, outcome_of_words};
 
 use crate::answer::{Answer, answer_of};
@@ -98,7 +98,7 @@ pub fn perform<X: AllocGlobal, S: Source, K: Sink>(
 
     // How far it reads.
     ensures unread { WantNoInput words.now → src.new ≡ src.old }
-    ensures reads_all { IsFormed result → WantInput words.now
+    ensures reads_all { IsAnswerFormed result → WantInput words.now
         → IfSome (S.left src.old) (λ input. S.left src.new ≡ Some (part_left input)) }
     ensures no_further { IfSome (S.left src.old) (λ input. ReadsNoFurther input (S.left src.new)) }
 

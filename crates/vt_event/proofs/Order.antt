@@ -12,7 +12,7 @@ use Rattle.vt_frac.specs.Order.{order_of}
 use Rattle.vt_frac.specs.OrderLaws.{order_total, order_ties, same_parts}
 use Rattle.vt_event.specs.declared.place.Place.{Place}
 use Rattle.vt_event.specs.Order.{place_order, thread_order, IsBefore, IsThreadBefore, IsLexicographicallyBefore}
-use Rattle.vt_event.specs.OrderLaws.{both_equal, place_total, thread_total}
+use Rattle.vt_event.specs.OrderLaws.{place_total, thread_total}
 
 less-number : (a b : ℕ) → a < b → nat_cmp a b ≡ Less
 less-number a b h = grind (arith, nat_tests)
@@ -27,6 +27,12 @@ both_true : (b c : Bool) → (b && c) ≡ true → (b ≡ true) × (c ≡ true)
 both_true true true h = (refl, refl)
 both_true true false h = absurd (true≢false (sym h))
 both_true false c h = absurd (true≢false (sym h))
+
+-- a tie is a tie in each part
+both_equal : (o r : Ordering) → ordering_then o r ≡ Equal → (o ≡ Equal) × (r ≡ Equal)
+both_equal Less r h = absurd (let z : Less ≡ Equal = h in cc)
+both_equal Equal r h = (refl, h)
+both_equal Greater r h = absurd (let z : Greater ≡ Equal = h in cc)
 
 whole-equal : (m n : ℤ) → int_eq m n ≡ true → m ≡ n
 whole-equal m n h = by_ranked (m <ℤ n) (m ≡ n) (n <ℤ m) (int_cmp m n) (int_ranked m n (int_cmp m n) refl) (λ e _. absurd (true≢false (sym h ∙ ap is_eq e))) (λ _ p. p) (λ e _. absurd (true≢false (sym h ∙ ap is_eq e)))

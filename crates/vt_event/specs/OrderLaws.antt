@@ -1,8 +1,4 @@
 -- The order of places is total and exact. The laws of `Ord` cite this.
-use Rattle.std.proofs.Common.{◌≡◌, refl}
-use Rattle.std.specs.declared.cmp.Ordering.{Ordering}
-use Rattle.std.specs.declared.cmp.Ordering.TheVariants.{Less, Equal, Greater}
-use Rattle.std.specs.Ordering.{ordering_then}
 use Rattle.std.specs.Cmp.{IsTotalOrder}
 use Rattle.std.proofs.lemmas.Cmp.{on_total, then_total, nat_cmp_total, nat_list_cmp_total}
 use Rattle.vt_frac.specs.OrderLaws.{order_total}
@@ -20,9 +16,3 @@ place_total =
 
 pub place_ref_total : IsTotalOrder (λ (p q : PlaceRef). place_order (place_of p) (place_of q))
 place_ref_total = on_total place_of place_total
-
--- a tie is a tie in each part
-pub both_equal : (o r : Ordering) → ordering_then o r ≡ Equal → (o ≡ Equal) × (r ≡ Equal)
-both_equal Less r h = absurd (let z : Less ≡ Equal = h in cc)
-both_equal Equal r h = (refl, h)
-both_equal Greater r h = absurd (let z : Greater ≡ Equal = h in cc)

@@ -1,7 +1,7 @@
 -- Texts and inputs as a session gives them: own.
-use Rattle.std.specs.Prelude.{◌≡◌, ◌⊎◌, ℕ, ◌+◌, ◌≤◌, pos, ◌≤ℤ◌, List, [], ◌∷◌, Bool, true, false, nat_le, Some, IsSomeAnd, IsTrue, All, codes, length, map, slice_get}
+use Rattle.std.specs.Prelude.{◌≡◌, ℕ, ◌+◌, ◌≤◌, pos, ◌≤ℤ◌, List, [], ◌∷◌, Bool, true, false, Some, IsSomeAnd, IsTrue, All, codes, length, map, slice_get}
 use Rattle.std.specs.List.Sorted.{IsSorted}
-use Rattle.vt_frac.specs.Fraction.{Fraction, whole}
+use Rattle.vt_frac.specs.Fraction.{Fraction, IsFraction, whole}
 use Rattle.vt_frac.specs.Names.{is_symbol_name}
 use Rattle.vt_frac.specs.Order.{value_order}
 use Rattle.vt_path.specs.declared.inner_path.InnerKind.TheVariants.{Stop}
@@ -9,17 +9,19 @@ use Rattle.vt_path.specs.Inner.{inner_of}
 use Rattle.vt_path.specs.Path.{IsPath}
 use Rattle.vt_value.specs.declared.value.Value.{Value, out-Value}
 use Rattle.vt_value.specs.declared.value.Value.TheOpen.{Value-F}
-use Rattle.vt_value.specs.declared.value.Value.TheVariants.{Nil, Ring, Whole}
-use Rattle.vt_value.specs.Arithmetic.{are_within}
+use Rattle.vt_value.specs.declared.value.Value.TheVariants.{Ring, Whole}
 use Rattle.vt_value.specs.Kinds.{ring_of}
+use Rattle.vt_value.specs.Limits.{IsWithin}
+use Rattle.vt_event.specs.declared.kind.Kind.{Kind}
 use Rattle.vt_event.specs.declared.kind.Kind.TheVariants.{Cue, Set, Ended}
 use Rattle.vt_event.specs.declared.place.Place.{Place}
-use Rattle.vt_event.specs.Event.{EventView}
+use Rattle.vt_event.specs.Event.{EventView, IsEvent}
 use Rattle.vt_event.specs.EventsByKind.{cue_event, ended_event, set_event}
 
--- at most 1,048,576 times, each at least 0, none below an earlier one
+-- at most 1,048,576 times, each a fraction of at least 0, none below an earlier one
 pub record AreOrderlyTimes (times : List Fraction) : Type 0 where
   pub few : length times ≤ 1048576
+  pub fractions : All IsFraction times
   pub start : All (λ time. pos 0 ≤ℤ time.numer) times
   pub rising : IsSorted value_order times
 
@@ -27,10 +29,10 @@ abbrev pub given_layer : {A : Type 0} → Value-F A → Bool
 given_layer (Value-F.Whole n) = true
 given_layer (Value-F.Part f) = true
 given_layer (Value-F.Sym name) = true
-given_layer (Value-F.Text bytes) = nat_le (length bytes) 4096
+given_layer (Value-F.Text bytes) = true
 given_layer _ = false
 
--- what may be given with an input: a number, a symbol, or a text of at most 4,096 bytes
+-- what may be given with an input: a number, a symbol or a text
 abbrev pub is_given : Value → Bool
 is_given value = given_layer (out-Value value)
 
@@ -38,15 +40,13 @@ is_given value = given_layer (out-Value value)
 abbrev pub input_place : Fraction → ℕ → Place
 input_place time number = record { time = time; micro = 0; thread = 0 ∷ []; step = number }
 
--- a cue is given: at a path that a user may write, with the ring of its values
+-- a cue is given, at a path that a user may write, with the ring of its values
 pub record IsGivenCue (event : EventView) : Type 0 where
-  pub kind : event.kind ≡ Cue
   pub path : IsSomeAnd event.path IsPath
-  pub values : IsSomeAnd (ring_of event.value) (λ items. All (λ item. IsTrue (is_given item)) items × IsTrue (are_within items))
+  pub values : IsSomeAnd (ring_of event.value) (All (λ item. IsTrue (is_given item)))
 
--- a value is set: at a path that a user may write
+-- a value that may be given is set, at a path that a user may write
 pub record IsGivenSet (event : EventView) : Type 0 where
-  pub kind : event.kind ≡ Set
   pub path : IsSomeAnd event.path IsPath
   pub value : IsTrue (is_given event.value)
 
@@ -56,16 +56,19 @@ pub record IsStopPath (path : List (List ℕ)) : Type 0 where
   pub symbol : IsTrue (is_symbol_name name)
   pub whole : path ≡ inner_of Stop name
 
--- a live loop is told to stop: an end, at the stop path of its name, with nil
-pub record IsGivenStop (event : EventView) : Type 0 where
-  pub kind : event.kind ≡ Ended
-  pub path : IsSomeAnd event.path IsStopPath
-  pub value : event.value ≡ Nil
+-- what is given, by its kind: a cue, a set, or an end at a stop path, by which a live loop is told to stop
+abbrev pub IsGiven : Kind → EventView → Type 0
+IsGiven Cue event = IsGivenCue event
+IsGiven Set event = IsGivenSet event
+IsGiven Ended event = IsSomeAnd event.path IsStopPath
+IsGiven _ event = ⊥
 
--- the input with this number, from 1: it stands at its place, and a cue, a set or a stop is given with it
+-- The input with this number, from 1: it stands at its place, and a cue, a set or a stop is given with it. It has the fields of its kind and no others, so a stop has nil; and its value is within the limits of the language.
 pub record IsInput (number : ℕ) (event : EventView) : Type 0 where
   pub place : event.place ≡ input_place event.place.time number
-  pub form : ∥ IsGivenCue event ⊎ IsGivenSet event ⊎ IsGivenStop event ∥₁
+  pub form : IsGiven event.kind event
+  pub fields : IsEvent event
+  pub within : IsWithin event.value
 
 -- the texts begin at these times, and the inputs are these events
 pub record AreOrderly (text_times : List Fraction) (inputs : List EventView) : Type 0 where

@@ -50,6 +50,13 @@ impl<T: Drop> Sequence<T> {
     {
         self.items.as_slice()
     }
+
+    /// The items in order, for the one who takes them over.
+    pub fn into_vec(self) -> Vec<T>
+        ensures { result.items ≡ self }
+    {
+        self.items
+    }
 }
 
 /// Events, one after another.

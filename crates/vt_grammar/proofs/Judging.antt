@@ -5,7 +5,7 @@ use Rattle.std.proofs.Common.{inl, inr, refl, sym, ap, subst, append_assoc, appe
 use Rattle.vt_grammar.specs.Grammar.{block, opened}
 use Rattle.vt_grammar.specs.Marks.{Spelled, marked}
 use Rattle.vt_grammar.specs.Text.{text, Reads, Begins, RefusedAt}
-use Rattle.vt_grammar.specs.Verdict.{Judged, IsJudged, Parsed, parsed_by}
+use Rattle.vt_grammar.specs.Verdict.{IsJudged, AlwaysOne, Parsed, parsed_by}
 use Rattle.vt_frac.proofs.Decision.{Decision, holds, fails}
 use Rattle.vt_grammar.proofs.Decided.{Hit, Decided, mapped_decided}
 use Rattle.vt_grammar.proofs.DecidedRules.{brackets, block_decided}
@@ -65,7 +65,7 @@ last_of : (t : Spelled) (ts : List Spelled) → Last (t ∷ ts)
 last_of t [] = record { prefix = []; last = t; whole = refl }
 last_of t (u ∷ ts) = let end = last_of u ts in record { prefix = t ∷ end.prefix; last = end.last; whole = ap (λ z. t ∷ z) end.whole }
 
-judge : (tokens : List Spelled) → Decision (IsRead tokens) → Decision (Begins tokens) → Judged tokens
+judge : (tokens : List Spelled) → Decision (IsRead tokens) → Decision (Begins tokens) → IsJudged tokens
 judge tokens (holds h) d = inl (h.value, h.found)
 judge tokens (fails n) (fails m) = let at = refused_from tokens [] nil_begun m in inr (at.0, inl at.1)
 judge [] (fails n) (holds b) = absurd (n nil_read)
@@ -83,7 +83,7 @@ judge (t ∷ ts) (fails n) (holds b) =
       }),
     )
 
-pub always : IsJudged
+pub always : AlwaysOne
 always tokens = judge tokens (is_read tokens) (is_begun tokens)
 
 -- the verdict on the tokens, which there always is

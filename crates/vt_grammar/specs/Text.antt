@@ -53,8 +53,8 @@ ReadBegins = (tokens : List Spelled) (tree : Block) → Reads tokens tree → Be
 abbrev pub IsReadOnce : Type 0
 IsReadOnce = (tokens : List Spelled) (tree other : Block) → Reads tokens tree → Reads tokens other → tree ≡ other
 
-abbrev pub IsReadOrRefused : Type 0
-IsReadOrRefused = (tokens : List Spelled) (tree : Block) (line : ℕ) → Reads tokens tree → SyntaxRefuses tokens line → ⊥
+abbrev pub NeverBoth : Type 0
+NeverBoth = (tokens : List Spelled) (tree : Block) (line : ℕ) → Reads tokens tree → SyntaxRefuses tokens line → ⊥
 
 abbrev pub IsRefusedOnce : Type 0
 IsRefusedOnce = (tokens : List Spelled) (line other : ℕ) → SyntaxRefuses tokens line → SyntaxRefuses tokens other → line ≡ other

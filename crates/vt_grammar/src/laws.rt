@@ -1,8 +1,8 @@
 //! What a text means is one thing: the laws of the relation between tokens and trees.
 ghost use Rattle.vt_grammar.specs.Formed.{AreFormedWhereLexed, IsFormedWhereRead};
 ghost use Rattle.vt_grammar.specs.Order.{IsInOrder};
-ghost use Rattle.vt_grammar.specs.Text.{PrefixesBegin, ReadBegins, IsReadOnce, IsReadOrRefused, IsRefusedOnce};
-ghost use Rattle.vt_grammar.specs.Verdict.{IsJudged, IsLineWhereRefused, IsTreeWhereRead};
+ghost use Rattle.vt_grammar.specs.Text.{PrefixesBegin, ReadBegins, IsReadOnce, NeverBoth, IsRefusedOnce};
+ghost use Rattle.vt_grammar.specs.Verdict.{AlwaysOne, IsLineWhereRefused, IsTreeWhereRead};
 
 /// A prefix of tokens that begin a text begins a text.
 pub fn prefix_law()
@@ -21,7 +21,7 @@ pub fn single_law()
 
 /// No tokens are both read and refused.
 pub fn apart_law()
-    ensures { IsReadOrRefused }
+    ensures { NeverBoth }
 {}
 
 /// Tokens are refused on one line alone.
@@ -31,7 +31,7 @@ pub fn once_law()
 
 /// All tokens are read as a tree or refused on a line.
 pub fn always_law()
-    ensures { IsJudged }
+    ensures { AlwaysOne }
 {}
 
 /// The verdict on tokens is the tree that they are read as, or the line on which they are refused.

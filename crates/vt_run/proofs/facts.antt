@@ -4,7 +4,9 @@ pub mod BlocksOfTexts
 pub mod DeedFacts
 pub mod EventFacts
 pub mod Fitting
+pub mod InputFacts
 pub mod Known
+pub mod LoopFacts
 pub mod NameFacts
 pub mod NoteFacts
 pub mod OperatorFacts
@@ -14,4 +16,3 @@ pub mod TextFacts
 pub mod TextsKept
 pub mod TimedFacts
 pub mod TreeFacts
-pub mod TurnFacts

@@ -14,7 +14,7 @@ pub record Left : Type 0 where
   pub value : Value
   pub state : State
 
--- the steps of an evaluation, and what it leaves. It leaves nothing where the thread ended, asked and has no further answer, or rested to its horizon, and where the bound on turns and calls ran out.
+-- the steps of an evaluation, and what it leaves. It leaves nothing where the thread ended, asked and has no further answer, waited and was answered by what wakes nothing, or rested to its horizon, and where the bound on turns and calls ran out.
 pub record Ran : Type 0 where
   pub steps : List Step
   pub left : Option Left

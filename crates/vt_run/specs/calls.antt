@@ -4,6 +4,7 @@ pub mod Deeds
 pub mod EffectTable
 pub mod FunctionCalls
 pub mod LiveLoops
+pub mod LoopCalls
 pub mod MessageCalls
 pub mod PatternCalls
 pub mod PlayCalls
@@ -11,4 +12,3 @@ pub mod SettingCalls
 pub mod ThreadCalls
 pub mod TickCalls
 pub mod TimeCalls
-pub mod TurnCalls

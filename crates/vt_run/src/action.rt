@@ -14,7 +14,7 @@ use vt_path::Pattern;
 pub enum EndReason {
     /// It came to the end of its block.
     Done,
-    /// It stopped itself.
+    /// It stopped itself; or it is a live loop that was told to stop, or whose body was not found.
     Stopped,
     /// It had a fault.
     Faulted,

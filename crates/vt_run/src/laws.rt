@@ -4,7 +4,7 @@ ghost use Rattle.vt_path.proofs.PathDecided.{IsNoneWhereNoPath, IsPathWhereWritt
 ghost use Rattle.vt_path.proofs.PatternDecided.{IsNoneWhereNoPattern, IsPatternWhereWritten};
 ghost use Rattle.vt_run.specs.laws.NoteLaws.{PieceLaw};
 ghost use Rattle.vt_run.specs.laws.StandingLaws.{AnswerLaw, MicroLaw, NextPlaceLaw, StandingLaw, StepCountLaw, StopsLaw, ThreadLaw, TimedLaw};
-ghost use Rattle.vt_run.specs.laws.StartLaws.{RefusalLaw, TextStartLaw};
+ghost use Rattle.vt_run.specs.laws.StartLaws.{InputLaw, RefusalLaw, TextStartLaw};
 ghost use Rattle.vt_run.specs.laws.StepLaws.{AnswersLaw, BlocksLaw, ChildrenLaw, ClosingLaw, CostsLaw, EventsLaw, HorizonLaw, LastLaw, LimitsLaw, NextLaw, NumbersLaw, PiecesAreOne, PlacesLaw, PrefixLaw, RisingLaw};
 ghost use Rattle.vt_run.specs.laws.SequenceLaws.{AfterOptionsLaw, AfterValuesLaw, LinksLaw, OptionsLaw, SequenceLaw, ValuesLaw};
 
@@ -111,7 +111,8 @@ pub fn timed_threads_rest_first()
     ensures { TimedLaw }
 {}
 
-/// Where a thread stands tells what is next: it goes on where it is ready, and does nothing elsewhere.
+/// Where a thread stands tells what is next: it goes on where it is ready, at the next place, and does nothing elsewhere; where
+/// it asks or waits, the next place is one step after its question.
 pub fn standing_tells_what_is_next()
     ensures { StandingLaw }
 {}
@@ -164,6 +165,11 @@ pub fn texts_start_within_limits()
 /// The event of a refused text is well made, within the limits, and stands before all that such a text would do.
 pub fn refusals_stand_first()
     ensures { RefusalLaw }
+{}
+
+/// An orderly input has the fields of its kind, and is within the limits of the language.
+pub fn inputs_are_within_limits()
+    ensures { InputLaw }
 {}
 
 /// Where the new answers change none of the steps that are done, what is noted of a thread is its next piece.

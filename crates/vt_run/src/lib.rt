@@ -22,12 +22,12 @@ pub use laws::{
     actions_stand_in_place, actions_stand_in_their_thread, answers_move_a_thread,
     answers_only_extend, children_are_numbered, children_run_blocks, each_step_costs,
     early_lists_end_with_the_last_step, events_are_well_made, fewer_steps_are_a_prefix,
-    last_steps_are_last, links_of_a_sequence, micro_steps_follow_events, noted_steps_are_a_piece,
-    numbers_follow_steps, options_and_then, options_of_a_sequence, paths_are_as_written,
-    patterns_are_as_written, pieces_are_one, places_rise, places_rise_to_the_next,
-    refusals_stand_first, standing_tells_what_is_next, steps_of_a_sequence,
-    texts_start_within_limits, threads_have_next_pieces, timed_threads_rest_first, values_and_then,
-    values_of_a_sequence, waits_ask_for_stops,
+    inputs_are_within_limits, last_steps_are_last, links_of_a_sequence, micro_steps_follow_events,
+    noted_steps_are_a_piece, numbers_follow_steps, options_and_then, options_of_a_sequence,
+    paths_are_as_written, patterns_are_as_written, pieces_are_one, places_rise,
+    places_rise_to_the_next, refusals_stand_first, standing_tells_what_is_next,
+    steps_of_a_sequence, texts_start_within_limits, threads_have_next_pieces,
+    timed_threads_rest_first, values_and_then, values_of_a_sequence, waits_ask_for_stops,
 };
 pub use options::RenderOptions;
 pub use piece::{Piece, Stop};

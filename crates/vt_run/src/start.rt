@@ -12,7 +12,7 @@ use vt_frac::{Frac, NoMemory};
 pub struct Start {
     /// The place of its first action.
     pub place: Place,
-    /// What it runs: a text, the block of `in_thread`, or that of the `live_loop` that started it.
+    /// What it runs: a text, or the block of the `in_thread`, `live_loop` or `at` that started it.
     pub block: BlockRef,
     /// Its locals.
     pub locals: Locals,

@@ -1,6 +1,7 @@
 -- The first line of a text and the first word of a line, before what follows. Own.
 use Rattle.std.specs.Prelude.{ℕ, ◌≡◌, false, List, [], ◌∷◌, Option, None, Some}
-use Rattle.vt_cli.specs.Line.{is_blank, lines_of}
+use Rattle.vt_lex.specs.Bytes.{is_blank}
+use Rattle.vt_cli.specs.Line.{lines_of}
 
 -- a line before those of the text that follows it, where one does
 abbrev pub line_and_more : List ℕ → Option (List ℕ) → List (List ℕ)
@@ -13,6 +14,6 @@ word_and_more [] more = []
 word_and_more (b ∷ bs) more = (b ∷ bs) ∷ more
 
 -- there are no bytes, or the first is no blank
-abbrev pub BeginsWord : List ℕ → Type 0
-BeginsWord [] = Unit {0}
-BeginsWord (b ∷ bs) = is_blank b ≡ false
+abbrev pub BeginsLineWord : List ℕ → Type 0
+BeginsLineWord [] = Unit {0}
+BeginsLineWord (b ∷ bs) = is_blank b ≡ false

@@ -25,7 +25,7 @@ use Rattle.vt_run.specs.declared.state.State.{State}
 use Rattle.vt_run.specs.calls.Arguments.{Given, all_args, each_of, has_item, numbers_of, ring_if_given}
 use Rattle.vt_run.specs.calls.ThreadCalls.{timings, values_for}
 use Rattle.vt_run.specs.calls.TimeCalls.{seconds_of}
-use Rattle.vt_run.specs.calls.TurnCalls.{density_of}
+use Rattle.vt_run.specs.calls.LoopCalls.{density_of}
 use Rattle.vt_run.specs.Delays.{is_delay}
 use Rattle.vt_run.specs.Limits.{IsRestWithin}
 use Rattle.vt_run.specs.Tempo.{is_tempo}

@@ -51,7 +51,7 @@ use Rattle.vt_run.specs.Tempo.{is_tempo}
 use Rattle.vt_run.specs.Threads.{block_of}
 use Rattle.vt_run.specs.calls.TickCalls.{Counters, look_call, tick_call, tick_reset_call, tick_set_call}
 use Rattle.vt_run.specs.calls.TimeCalls.{beats_of, current_bpm_call, rest_of, rt_call, sleep_call, vt_call}
-use Rattle.vt_run.specs.calls.TurnCalls.{density_call, density_of, each_call, loop_call, loops, map_call, numbers_below, times_call, turn_begun, turns_over, unless_idle}
+use Rattle.vt_run.specs.calls.LoopCalls.{density_call, density_of, each_call, loop_call, loops, map_call, numbers_below, times_call, turn_begun, turns_over, unless_idle}
 use Rattle.vt_run.proofs.facts.ArgumentFacts.{beats_fit, beats_rest, inner_pattern, loop_fact, pattern_fact, rest_fact, rest_fits, role_fact, symbol_fact, tempo_fact}
 use Rattle.vt_run.proofs.growth.Closures.{BodyGrows, neither, both, SpotGrows, Two, answered_state, low, high, MeaningGrows, charges_keep, cond_keeps, done_keeps, emit_keeps, emits_all_keep, ends_keep, enters_keep, fails_keep, gives_like, if_keeps, or_fails_keeps, tick_keeps}
 use Rattle.vt_run.proofs.facts.DeedFacts.{computed_deed, cue_deed, current_bpm_deed, look_deed, play_deed, puts_deed, rt_deed, sample_deed, set_deed, synth_deed, tick_deed, tick_reset_deed, tick_set_deed, use_bpm_deed, use_debug_deed, use_random_seed_deed, use_synth_deed, use_synth_defaults_deed, vt_deed}
@@ -60,7 +60,7 @@ use Rattle.vt_run.proofs.facts.Known.{IsGivenWithin, IsLike, IsStateWithin, Part
 use Rattle.vt_run.proofs.facts.PairFacts.{pairs_append, pairs_take, params_within}
 use Rattle.vt_run.proofs.facts.PatternFacts.{HasNotes, IsItem, even_items_fact, even_items_notes, notes_told, timed_items_fact, timed_items_notes}
 use Rattle.vt_run.proofs.facts.TimedFacts.{IsTiming, density_fact, timings_fact}
-use Rattle.vt_run.proofs.facts.TurnFacts.{below_within, numbers_within, ring_items, whole_fits}
+use Rattle.vt_run.proofs.facts.LoopFacts.{below_within, numbers_within, ring_items, whole_fits}
 use Rattle.std.proofs.lemmas.Bool.{ltb-true}
 
 -- the same state at another time

@@ -38,7 +38,7 @@ use Rattle.vt_run.specs.Scopes.{BlockMeaning, params_with, with_locals}
 use Rattle.vt_run.specs.Evaluation.{Evaluation, Next, Ran, Spot, after, halts}
 use Rattle.vt_run.specs.Threads.{block_of, body_by, by_role, called, env_of, first_block, first_spot, opening, rests_first, thread}
 use Rattle.vt_run.specs.TreeMeaning.{block_meaning}
-use Rattle.vt_run.specs.calls.TurnCalls.{turn_begun, unless_idle}
+use Rattle.vt_run.specs.calls.LoopCalls.{turn_begun, unless_idle}
 use Rattle.vt_run.proofs.facts.BlocksOfTexts.{FitBlock, IsFitBlock, blocks_fit}
 use Rattle.vt_run.proofs.growth.CallGrowth.{BlockFits, reads_keep, runs_found_keep, syncs_keep, with_pairs}
 use Rattle.vt_run.proofs.growth.Closures.{BodyGrows, neither, both, Closure, Subject, SpotGrows, Two, answered_state, charges_keep, cond_keeps, emit_keeps, ends_keep, fails_keep, high, low, or_fails_keeps}

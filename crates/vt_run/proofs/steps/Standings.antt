@@ -56,52 +56,92 @@ later_last until stand step steps has = record {
   last = subst (λ (s : Stand). IsTrue (is_last_step until s.answers has.step.action)) (sym (stand_listed step.action (actions_of has.prefix) stand)) has.last;
 }
 
--- a thread that is ready is so at this place; of every other one B holds
+none_before : (xs ys : List Step) → xs ++ ys ≡ [] → xs ≡ []
+none_before [] ys h = refl
+none_before (x ∷ xs) ys h = absurd (let z : x ∷ (xs ++ ys) ≡ [] = h in cc)
+
+abbrev IsPlaced : Place → Option Action → Type 0
+IsPlaced place None = Unit {0}
+IsPlaced place (Some action) = action_place action ≡ place
+
+-- each action stands in place, and behind the last one there is nothing
+abbrev AreInOrder : Fraction → Stand → List Step → Type 0
+AreInOrder until stand [] = Unit {0}
+AreInOrder until stand (step ∷ steps) =
+    IsPlaced stand.place step.action × (IsTrue (is_last_step until stand.answers step.action) → steps ≡ []) × AreInOrder until (stand_behind step.action stand) steps
+
+placed_one : (place : Place) (made : Option Action) → ((action : Action) → made ≡ Some action → action_place action ≡ place) → IsPlaced place made
+placed_one place None h = tt
+placed_one place (Some action) h = h action refl
+
+stand_further : (prefix : List Step) (step : Step) (stand : Stand) → stand_after_all (actions_of (prefix ++ step ∷ [])) stand ≡ stand_behind step.action (stand_after_all (actions_of prefix) stand)
+stand_further [] step stand = stand_listed step.action [] stand
+stand_further (first ∷ prefix) step stand =
+    stand_listed first.action (actions_of (prefix ++ step ∷ [])) stand
+    ∙ stand_further prefix step (stand_behind first.action stand)
+    ∙ ap (stand_behind step.action) (sym (stand_listed first.action (actions_of prefix) stand))
+
+module _ (last : LastLaw) (places : PlacesLaw) (texts : Texts) (start : Start) (answers : List Answer) (bound : ℕ) (rest : List Step) where
+  in_order : (prefix steps : List Step) → acts texts start answers bound ≡ prefix ++ (steps ++ rest) → AreInOrder start.until (stand_of start answers prefix) steps
+  in_order prefix [] whole = tt
+  in_order prefix (step ∷ steps) whole = (
+    placed_one (next_place start answers prefix) step.action (λ action some. places texts start answers prefix step action (record { bound = bound; rest = steps ++ rest; whole = whole }) some),
+    λ is. none_before steps rest (last texts start answers bound prefix (steps ++ rest) step whole is),
+    subst (λ (s : Stand). AreInOrder start.until s steps) (stand_further prefix step (first_stand start answers))
+        (in_order (prefix ++ step ∷ []) steps (whole ∙ sym (append_assoc prefix (step ∷ []) (steps ++ rest)))),
+  )
+
+-- a thread that is ready is so at the next place; of every other one B holds, and of one that asks or waits the next place is one step behind
 abbrev Tells : Type 0 → Place → Stance → Type 0
 Tells B next (Ready place) = place ≡ next
-Tells B next _ = B
+Tells B next (Asks place pattern) = B × (next_step place ≡ next)
+Tells B next (Waits place pattern stop) = B × (next_step place ≡ next)
+Tells B next (Asleep time) = B
+Tells B next Over = B
 
 rest_tells : (B : Type 0) (past : Bool) (time : Fraction) (next : Place) → (IsTrue past → B) → Tells B next (stance_rested past time next)
 rest_tells B true time next last = last refl
 rest_tells B false time next last = refl
 
-read_tells : (B : Type 0) (left : Bool) (place : Place) (pattern : List Segment) (next : Place) → (IsTrue (not left) → B) → Tells B next (stance_asking left place pattern next)
-read_tells B true place pattern next last = refl
-read_tells B false place pattern next last = last refl
+read_tells : (B : Type 0) (left : Bool) (place : Place) (pattern : List Segment) (next : Place) → next_step place ≡ next → (IsTrue (not left) → B) → Tells B next (stance_asking left place pattern next)
+read_tells B true place pattern next behind last = refl
+read_tells B false place pattern next behind last = (last refl, behind)
 
 wake_tells : (B : Type 0) (awake : Bool) (place : Place) (pattern : List Segment) (stop : Option (List Segment)) (next : Place) → (IsTrue (not awake) → B) → Tells B next (stance_waiting true awake place pattern stop next)
 wake_tells B true place pattern stop next last = refl
 wake_tells B false place pattern stop next last = last refl
 
-wait_tells : (B : Type 0) (answers : List Answer) (place : Place) (pattern : List Segment) (stop : Option (List Segment)) (next : Place) →
-    (IsTrue (not (wakes answers)) → B) → Tells B next (stance_waiting (is_one_left answers) (wakes answers) place pattern stop next)
-wait_tells B [] place pattern stop next last = last refl
-wait_tells B (Nothing ∷ answers) place pattern stop next last = last refl
-wait_tells B (Found event ∷ answers) place pattern stop next last = wake_tells B (is_some event.path) place pattern stop next last
+wait_tells : (B : Type 0) (answers : List Answer) (place at : Place) (pattern : List Segment) (stop : Option (List Segment)) → place ≡ at → (IsTrue (not (wakes answers)) → B) →
+    Tells B (next_step (place_woken answers at)) (stance_waiting (is_one_left answers) (wakes answers) place pattern stop (next_step (place_woken answers at)))
+wait_tells B [] place at pattern stop placed last = (last refl, ap next_step placed)
+wait_tells B (Nothing ∷ answers) place at pattern stop placed last = last refl
+wait_tells B (Found event ∷ answers) place at pattern stop placed last = wake_tells B (is_some event.path) place pattern stop (next_step (place_woken (Found event ∷ answers) at)) last
 
 -- behind an action the thread is ready, or that was its last one
-action_tells : (B : Type 0) (until : Fraction) (action : Action) (answers : List Answer) (next : Place) → (IsTrue (is_last until answers action) → B) → Tells B next (stance_after until action answers next)
-action_tells B until (Emit event) answers next last = refl
-action_tells B until (Rest place seconds) answers next last = rest_tells B (is_past until (sum_of place.time seconds)) (sum_of place.time seconds) next last
-action_tells B until (Read place pattern) answers next last = read_tells B (is_one_left answers) place pattern next last
-action_tells B until (Wait place pattern stop) answers next last = wait_tells B answers place pattern stop next last
-action_tells B until (Spawn place start) answers next last = refl
-action_tells B until (End place reason) answers next last = last refl
+action_tells : (B : Type 0) (until : Fraction) (action : Action) (at : Place) (answers : List Answer) → action_place action ≡ at → (IsTrue (is_last until answers action) → B) →
+    Tells B (stand_after action (record { place = at; answers = answers })).place (stance_after until action answers (stand_after action (record { place = at; answers = answers })).place)
+action_tells B until (Emit event) at answers placed last = refl
+action_tells B until (Rest place seconds) at answers placed last =
+    rest_tells B (is_past until (sum_of place.time seconds)) (sum_of place.time seconds) (next_step (place_rested seconds at)) last
+action_tells B until (Read place pattern) at answers placed last = read_tells B (is_one_left answers) place pattern (next_step at) (ap next_step placed) last
+action_tells B until (Wait place pattern stop) at answers placed last = wait_tells B answers place at pattern stop placed last
+action_tells B until (Spawn place start) at answers placed last = refl
+action_tells B until (End place reason) at answers placed last = last refl
 
-step_tells : (B : Type 0) (until : Fraction) (action : Option Action) (stance : Stance) (stand : Stand) → Tells B stand.place stance → (IsTrue (is_last_step until stand.answers action) → B) →
-    Tells B (stand_behind action stand).place (stance_behind until action stance stand)
-step_tells B until None stance stand tells last = tells
-step_tells B until (Some action) stance stand tells last = action_tells B until action stand.answers (stand_after action stand).place last
+step_tells : (B : Type 0) (until : Fraction) (action : Option Action) (stance : Stance) (stand : Stand) → IsPlaced stand.place action → Tells B stand.place stance →
+    (IsTrue (is_last_step until stand.answers action) → B) → Tells B (stand_behind action stand).place (stance_behind until action stance stand)
+step_tells B until None stance stand placed tells last = tells
+step_tells B until (Some action) stance stand placed tells last = action_tells B until action stand.place stand.answers placed last
 
-steps_tell : (B : Type 0) (until : Fraction) (steps : List Step) (stance : Stance) (stand : Stand) → Tells B stand.place stance → (HasLast until stand steps → B) →
+steps_tell : (B : Type 0) (until : Fraction) (steps : List Step) (stance : Stance) (stand : Stand) → AreInOrder until stand steps → Tells B stand.place stance → (HasLast until stand steps → B) →
     Tells B (stand_after_all (actions_of steps) stand).place (stance_of until stance (actions_of steps) stand)
-steps_tell B until [] stance stand tells last = tells
-steps_tell B until (step ∷ steps) stance stand tells last =
+steps_tell B until [] stance stand order tells last = tells
+steps_tell B until (step ∷ steps) stance stand order tells last =
     let here : IsTrue (is_last_step until stand.answers step.action) → B = λ is. last (record { prefix = []; step = step; more = steps; whole = refl; last = is }) in
     let later : HasLast until (stand_behind step.action stand) steps → B = λ has. last (later_last until stand step steps has) in
     subst (λ (s : Stand). Tells B s.place (stance_of until stance (listed step.action ++ actions_of steps) stand)) (sym (stand_listed step.action (actions_of steps) stand))
     (subst (Tells B (stand_after_all (actions_of steps) (stand_behind step.action stand)).place) (sym (stance_listed until step.action (actions_of steps) stance stand))
-    (steps_tell B until steps (stance_behind until step.action stance stand) (stand_behind step.action stand) (step_tells B until step.action stance stand tells here) later))
+    (steps_tell B until steps (stance_behind until step.action stance stand) (stand_behind step.action stand) order.2 (step_tells B until step.action stance stand order.0 tells here) later))
 
 abbrev IsReady : Stance → Type 0
 IsReady (Ready place) = Unit {0}
@@ -145,10 +185,6 @@ none_behind : (xs ys : List Step) → xs ++ ys ≡ [] → ys ≡ []
 none_behind [] ys h = h
 none_behind (x ∷ xs) ys h = absurd (let z : x ∷ (xs ++ ys) ≡ [] = h in cc)
 
-none_before : (xs ys : List Step) → xs ++ ys ≡ [] → xs ≡ []
-none_before [] ys h = refl
-none_before (x ∷ xs) ys h = absurd (let z : x ∷ (xs ++ ys) ≡ [] = h in cc)
-
 module _ (texts : Texts) (start : Start) (answers : List Answer) where
   acts_few : ClosingLaw → (n : ℕ) → length (acts texts start answers n) ≤ n
   acts_few closing n = go (closing texts start answers n)
@@ -179,6 +215,7 @@ module _ (texts : Texts) (start : Start) (answers : List Answer) where
         go [] whole (inl full) = absurd (omega (arith, full, ap (λ (xs : List Step). length xs) whole, length-append steps []))
         go [] whole (inr short) = absurd (free (subst (AreWhole start answers) (whole ∙ append-nil steps) short.1))
         go (step ∷ more) whole closed = record {
+          here = at;
           step = step;
           there = record { bound = length steps + 1; rest = more; whole = whole };
           placed = λ action some. places texts start answers steps step action (record { bound = length steps + 1; rest = more; whole = whole }) some ∙ sym at;
@@ -195,7 +232,9 @@ module _ (texts : Texts) (start : Start) (answers : List Answer) where
 
 pub standing_law : ClosingLaw → LastLaw → PrefixLaw → PlacesLaw → StandingLaw
 standing_law closing last extends places texts start answers steps are =
-    go (stands_at start answers steps) refl (steps_tell (HasLast start.until (first_stand start answers) steps) start.until steps (Ready start.place) (first_stand start answers) refl (λ has. has))
+    go (stands_at start answers steps) refl
+    (steps_tell (HasLast start.until (first_stand start answers) steps) start.until steps (Ready start.place) (first_stand start answers)
+    (in_order last places texts start answers are.bound are.rest [] steps are.whole) refl (λ has. has))
   where
     -- a thread that is ready has not done its last step
     free : (place : Place) → stands_at start answers steps ≡ Ready place → ¬ AreWhole start answers steps
@@ -205,41 +244,10 @@ standing_law closing last extends places texts start answers steps are =
 
     go : (stance : Stance) → stands_at start answers steps ≡ stance → Tells (HasLast start.until (first_stand start answers) steps) (next_place start answers steps) stance → IsNext texts start answers steps stance
     go (Ready place) is at = goes_further texts start answers closing extends steps are places (free place is) place at
-    go (Asks place pattern) is has = goes_nowhere texts start answers closing extends steps are last has
-    go (Waits place pattern stop) is has = goes_nowhere texts start answers closing extends steps are last has
+    go (Asks place pattern) is has = record { here = has.1; all = goes_nowhere texts start answers closing extends steps are last has.0 }
+    go (Waits place pattern stop) is has = record { here = has.1; all = goes_nowhere texts start answers closing extends steps are last has.0 }
     go (Asleep time) is has = goes_nowhere texts start answers closing extends steps are last has
     go Over is has = goes_nowhere texts start answers closing extends steps are last has
-
-abbrev IsPlaced : Place → Option Action → Type 0
-IsPlaced place None = Unit {0}
-IsPlaced place (Some action) = action_place action ≡ place
-
--- each action stands in place, and behind the last one there is nothing
-abbrev AreInOrder : Fraction → Stand → List Step → Type 0
-AreInOrder until stand [] = Unit {0}
-AreInOrder until stand (step ∷ steps) =
-    IsPlaced stand.place step.action × (IsTrue (is_last_step until stand.answers step.action) → steps ≡ []) × AreInOrder until (stand_behind step.action stand) steps
-
-placed_one : (place : Place) (made : Option Action) → ((action : Action) → made ≡ Some action → action_place action ≡ place) → IsPlaced place made
-placed_one place None h = tt
-placed_one place (Some action) h = h action refl
-
-stand_further : (prefix : List Step) (step : Step) (stand : Stand) → stand_after_all (actions_of (prefix ++ step ∷ [])) stand ≡ stand_behind step.action (stand_after_all (actions_of prefix) stand)
-stand_further [] step stand = stand_listed step.action [] stand
-stand_further (first ∷ prefix) step stand =
-    stand_listed first.action (actions_of (prefix ++ step ∷ [])) stand
-    ∙ stand_further prefix step (stand_behind first.action stand)
-    ∙ ap (stand_behind step.action) (sym (stand_listed first.action (actions_of prefix) stand))
-
-module _ (last : LastLaw) (places : PlacesLaw) (texts : Texts) (start : Start) (answers : List Answer) (bound : ℕ) (rest : List Step) where
-  in_order : (prefix steps : List Step) → acts texts start answers bound ≡ prefix ++ (steps ++ rest) → AreInOrder start.until (stand_of start answers prefix) steps
-  in_order prefix [] whole = tt
-  in_order prefix (step ∷ steps) whole = (
-    placed_one (next_place start answers prefix) step.action (λ action some. places texts start answers prefix step action (record { bound = bound; rest = steps ++ rest; whole = whole }) some),
-    λ is. none_before steps rest (last texts start answers bound prefix (steps ++ rest) step whole is),
-    subst (λ (s : Stand). AreInOrder start.until s steps) (stand_further prefix step (first_stand start answers))
-        (in_order (prefix ++ step ∷ []) steps (whole ∙ sym (append_assoc prefix (step ∷ []) (steps ++ rest)))),
-  )
 
 -- with a further answer
 abbrev with_answer : Answer → Stand → Stand

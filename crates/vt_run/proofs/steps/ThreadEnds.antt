@@ -23,7 +23,7 @@ use Rattle.vt_run.specs.calls.FunctionCalls.{FoundBody, body_found, runs_found}
 use Rattle.vt_run.specs.calls.LiveLoops.{is_stopped, live_turns, stops_or, turn_body, turn_of, turn_spot, waits_first}
 use Rattle.vt_run.specs.Evaluation.{Left, Next, Ran, Spot, Step, after, charges, does, goes_on, halts}
 use Rattle.vt_run.specs.Threads.{by_role, called, env_of, first_block, opening, rests_first, thread}
-use Rattle.vt_run.specs.calls.TurnCalls.{unless_idle}
+use Rattle.vt_run.specs.calls.LoopCalls.{unless_idle}
 
 tells_nothing : (path : Option (List (List ℕ))) (env : Env) (st : State) (reason : EndReason) → (tells_end path env st (λ st. does 1 (End (place_of env st) reason) halts)).left ≡ None
 tells_nothing None env st reason = refl

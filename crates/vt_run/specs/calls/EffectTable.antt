@@ -21,7 +21,7 @@ use Rattle.vt_ring.specs.Streams.{moved_on, words_from}
 use Rattle.vt_run.specs.calls.ThreadCalls.{at_call, in_thread_call, live_loop_call}
 use Rattle.vt_run.specs.calls.TickCalls.{look_call, tick_call, tick_reset_call, tick_set_call}
 use Rattle.vt_run.specs.calls.TimeCalls.{current_bpm_call, rt_call, sleep_call, vt_call}
-use Rattle.vt_run.specs.calls.TurnCalls.{density_call, each_call, loop_call, map_call, times_call}
+use Rattle.vt_run.specs.calls.LoopCalls.{density_call, each_call, loop_call, map_call, times_call}
 
 abbrev pub computed_by : Called → State → Result Deed FaultKind
 computed_by called st = value_of (with_stream (moved_on called.drawn st.stream) st) called.answer

@@ -20,7 +20,7 @@ use Rattle.vt_run.specs.Costs.{pair_sizes}
 use Rattle.vt_run.specs.Environment.{Env}
 use Rattle.vt_run.specs.calls.FunctionCalls.{FoundBody, body_found, runs_found}
 use Rattle.vt_run.specs.Evaluation.{Next, Ran, Spot, halts, after, charges, tick}
-use Rattle.vt_run.specs.calls.TurnCalls.{turn_begun, unless_idle}
+use Rattle.vt_run.specs.calls.LoopCalls.{turn_begun, unless_idle}
 
 -- the body of a turn stands at depth 0, on the line of the statement that it belongs to
 abbrev pub turn_spot : FoundBody → Spot

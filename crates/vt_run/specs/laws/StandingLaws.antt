@@ -18,7 +18,7 @@ use Rattle.vt_run.specs.declared.texts.Texts.{Texts}
 use Rattle.vt_run.specs.Actions.{stop_pattern}
 use Rattle.vt_run.specs.Evaluation.{Step}
 use Rattle.vt_run.specs.Pieces.{actions_of}
-use Rattle.vt_run.specs.Standing.{Stance, Ready, Asks, Waits, Over, action_place, next_place, next_step, place_woken, stands_at}
+use Rattle.vt_run.specs.Standing.{Stance, Ready, Asks, Waits, Asleep, Over, action_place, next_place, next_step, place_woken, stands_at}
 use Rattle.vt_run.specs.laws.StepFacts.{AreAnsweredAbove, EachWait, IsThreadWithin}
 use Rattle.vt_run.specs.laws.StepLaws.{IsStep}
 use Rattle.vt_run.specs.Threads.{acts}
@@ -43,7 +43,7 @@ ThreadLaw =
     (texts : Texts) (start : Start) (answers : List Answer) (prefix : List Step) (step : Step) (action : Action) →
     IsStep texts start answers prefix step → step.action ≡ Some action → (action_place action).thread ≡ start.place.thread
 
--- The micro step of the next place is at most one that is not below that of the start, and above those of all events that answered the waits: so at most the greatest of these, plus one.
+-- The micro step of the next place is at most any number that is not below that of the start, and is above those of all events that answered the waits: so it is at most that of the start, or one more than the greatest of those of the events.
 abbrev pub MicroLaw : Type 0
 MicroLaw =
     (start : Start) (answers : List Answer) (steps : List Step) (most : ℕ) →
@@ -71,16 +71,29 @@ TimedLaw =
     (texts : Texts) (start : Start) (answers : List Answer) (step : Step) (rest : Fraction) (value : Value) (line : ℕ) →
     start.role ≡ Timed rest value line → IsStep texts start answers [] step → step.action ≡ Some (first_rest start.place rest line)
 
--- a step stands behind these, and where it has an action, that stands at this place
+-- a step stands behind these, and where it has an action, that stands at this place, which is the next one
 pub record GoesOnAt (texts : Texts) (start : Start) (answers : List Answer) (steps : List Step) (place : Place) : Type 0 where
+  pub here : place ≡ next_place start answers steps
   pub step : Step
   pub there : IsStep texts start answers steps step
   pub placed : (action : Action) → step.action ≡ Some action → action_place action ≡ place
 
+-- no step stands behind these
+abbrev pub AreAllSteps : Texts → Start → List Answer → List Step → Type 0
+AreAllSteps texts start answers steps = (bound : ℕ) → length steps ≤ bound → acts texts start answers bound ≡ steps
+
+-- no step stands behind these, and the next place is one step after this one, at which the thread asks
+pub record HaltsAt (texts : Texts) (start : Start) (answers : List Answer) (steps : List Step) (place : Place) : Type 0 where
+  pub here : next_step place ≡ next_place start answers steps
+  pub all : AreAllSteps texts start answers steps
+
 -- What is next of a thread that stands so after these steps: it goes on where it is ready, and no step is behind these elsewhere.
 abbrev pub IsNext : Texts → Start → List Answer → List Step → Stance → Type 0
 IsNext texts start answers steps (Ready place) = GoesOnAt texts start answers steps place
-IsNext texts start answers steps _ = (bound : ℕ) → length steps ≤ bound → acts texts start answers bound ≡ steps
+IsNext texts start answers steps (Asks place pattern) = HaltsAt texts start answers steps place
+IsNext texts start answers steps (Waits place pattern stop) = HaltsAt texts start answers steps place
+IsNext texts start answers steps (Asleep time) = AreAllSteps texts start answers steps
+IsNext texts start answers steps Over = AreAllSteps texts start answers steps
 
 abbrev pub StandingLaw : Type 0
 StandingLaw =

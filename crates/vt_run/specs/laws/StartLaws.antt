@@ -1,9 +1,10 @@
--- What holds of the thread of a text as it starts, and of the event that stands for a text that is refused: own.
-use Rattle.std.specs.Prelude.{ℕ, ◌<◌, ◌^◌}
+-- What holds of the thread of a text as it starts, of the event that stands for a text that is refused, and of the inputs: own.
+use Rattle.std.specs.Prelude.{◌≡◌, ℕ, ◌<◌, ◌^◌, List, Some, slice_get}
 use Rattle.vt_frac.specs.Fraction.{Fraction, IsFraction}
 use Rattle.vt_value.specs.declared.fault.FaultKind.{FaultKind}
-use Rattle.vt_event.specs.Event.{EventView}
+use Rattle.vt_event.specs.Event.{EventView, IsEvent}
 use Rattle.vt_event.specs.Order.{IsBefore}
+use Rattle.vt_event.specs.Orderly.{AreOrderly}
 use Rattle.vt_run.specs.declared.start.Start.{Start}
 use Rattle.vt_run.specs.Limits.{IsEventWithin, IsStartWithin}
 use Rattle.vt_run.specs.RenderLimits.{OptionsView}
@@ -27,3 +28,9 @@ abbrev pub RefusalLaw : Type 0
 RefusalLaw =
     (number : ℕ) (time : Fraction) (kind : FaultKind) (line : ℕ) (options : OptionsView) →
     IsFraction time → IsRefusal (refused_event number time kind line) (text_start number time options)
+
+-- each of the inputs, where they are orderly, has the fields of its kind and is within the limits of the language
+abbrev pub InputLaw : Type 0
+InputLaw =
+    (text_times : List Fraction) (inputs : List EventView) (k : ℕ) (input : EventView) →
+    AreOrderly text_times inputs → slice_get inputs k ≡ Some input → IsEvent input × IsEventWithin input

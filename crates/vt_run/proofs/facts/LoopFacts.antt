@@ -10,7 +10,7 @@ use Rattle.vt_value.specs.declared.value.Value.TheVariants.{Whole}
 use Rattle.vt_value.specs.Arithmetic.{are_within}
 use Rattle.vt_value.specs.Limits.{AreWithin}
 use Rattle.vt_run.specs.calls.Arguments.{Given, all_args}
-use Rattle.vt_run.specs.calls.TurnCalls.{numbers_below}
+use Rattle.vt_run.specs.calls.LoopCalls.{numbers_below}
 use Rattle.vt_run.proofs.facts.Known.{IsGivenWithin}
 
 pub whole_fits : (given : Given) (n : ℤ) → a_whole (all_args given) ≡ Ok n → IsGivenWithin given → unsigned_abs n < 2 ^ 63

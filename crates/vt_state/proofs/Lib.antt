@@ -1,0 +1,4 @@
+pub mod Best
+pub mod LawLemmas
+pub mod OwnPlaces
+pub mod ScanLemmas

@@ -1,0 +1,4 @@
+use Rattle.vt_state.proofs.laws.last_is_none_or_one.Goals as goal
+
+pub returns : goal.returns
+returns c = λ events place pattern event a nothing. nothing event a.found
