@@ -12,7 +12,7 @@ use Rattle.vt_check.specs.declared.fault.CheckFault.TheVariants.{At, NoMemory}
 use Rattle.vt_check.specs.Checked.{IsCause, IsSoundBlock}
 use Rattle.vt_check.specs.private.Finding.{block_with, Finds}
 use Rattle.vt_check.specs.private.Judging.{Judges}
-use Rattle.vt_check.specs.Verdict.{IsAllowed, CheckRefuses}
+use Rattle.vt_check.specs.Allowed.{IsAllowed, CheckRefuses}
 
 pub allowed_by : {U : Type 0} (tree : Block) (u : U) → Judges (in_block tree in_text) (Ok u) → IsAllowed tree
 unfolding IsAllowed

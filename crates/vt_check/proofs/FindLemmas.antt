@@ -6,7 +6,7 @@ use Rattle.std.proofs.lemmas.Bool.{eq-eqb, ne_eqb}
 use Rattle.vt_tree.specs.declared.statement.Block.{Block, out-Block}
 use Rattle.vt_tree.specs.Parts.{Part, called, opened, Context, Walk, Site, blocks_of, each, in_block, sites_of}
 use Rattle.vt_check.specs.private.Finding.{block_with, Finds}
-use Rattle.vt_check.specs.Verdict.{IsSound}
+use Rattle.vt_check.specs.Allowed.{IsSound}
 use Rattle.vt_check.proofs.JudgingLemmas.{drop_item, drop_past, sites_of-append}
 
 blocks_of-append : (a b : List Part) → blocks_of (a ++ b) ≡ blocks_of a ++ blocks_of b

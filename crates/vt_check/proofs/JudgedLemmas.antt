@@ -1,8 +1,8 @@
 -- The verdict on a tree is what the checks say.
 use Rattle.std.proofs.Common.{◌≡◌, ◌↔◌, ℕ, inl, inr, refl, subst}
 use Rattle.vt_tree.specs.declared.statement.Block.{Block}
-use Rattle.vt_check.specs.Judged.{Allowed, Refused, IsAllowedWhereAllowed, IsRefusedWhereRefused}
-use Rattle.vt_check.specs.Verdict.{CheckRefuses, IsAllowed}
+use Rattle.vt_check.specs.Verdict.{Allowed, Refused, IsAllowedWhereAllowed, IsRefusedWhereRefused}
+use Rattle.vt_check.specs.Allowed.{CheckRefuses, IsAllowed}
 use Rattle.vt_check.specs.declared.fault.CheckKind.{CheckKind}
 use Rattle.vt_check.proofs.Judging.{always_one, judged_of}
 use Rattle.vt_check.proofs.LawLemmas.{never_both, one_fault}

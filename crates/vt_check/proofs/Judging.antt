@@ -16,8 +16,8 @@ use Rattle.vt_tree.specs.Parts.{Site, sites}
 use Rattle.vt_check.specs.Written.{is_call, is_among, args_of, options_of, text_of, first_of}
 use Rattle.vt_check.specs.Conditions.{is_misplaced, is_misnamed, is_taken, is_no_method, is_miscounted, has_bad_option, has_wrong_block, has_wrong_params, begins_with_slash, first_text, IfText, IsRefused, IsFirstRefused, HasRefusedOption, HasRefusedPath}
 use Rattle.vt_check.specs.Laws.{AlwaysOne}
-use Rattle.vt_check.specs.Judged.{Judged, judged_by}
-use Rattle.vt_check.specs.Verdict.{checks, CheckRefuses, Fails, FirstFault, HasFirst, HasNone, IsAllowed, IsFaultOf, IsSound}
+use Rattle.vt_check.specs.Verdict.{Judged, judged_by}
+use Rattle.vt_check.specs.Allowed.{checks, CheckRefuses, Fails, FirstFault, HasFirst, HasNone, IsAllowed, IsFaultOf, IsSound}
 use Rattle.vt_check.specs.declared.fault.CheckKind.{CheckKind}
 use Rattle.vt_check.specs.declared.fault.CheckKind.TheVariants.{DefinePlace, Name, Taken, Method, Count, Opt, Block as WrongBlock, Params, Path}
 

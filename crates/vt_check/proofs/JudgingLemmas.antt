@@ -10,7 +10,7 @@ use Rattle.vt_tree.specs.Parts.{Part, called, opened, Context, Walk, Site, sites
 use Rattle.vt_check.specs.declared.fault.CheckKind.{CheckKind}
 use Rattle.vt_check.specs.declared.fault.CheckFault.{CheckFault}
 use Rattle.vt_check.specs.declared.fault.CheckFault.TheVariants.{At, NoMemory}
-use Rattle.vt_check.specs.Verdict.{IsSound, IsFaultOf, FirstFault}
+use Rattle.vt_check.specs.Allowed.{IsSound, IsFaultOf, FirstFault}
 use Rattle.vt_check.specs.private.Judging.{Judges, JudgesCall}
 
 pub sites_of-append : (a b : List Part) → sites_of (a ++ b) ≡ sites_of a ++ sites_of b

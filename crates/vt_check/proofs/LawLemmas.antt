@@ -5,7 +5,7 @@ use Rattle.std.proofs.lemmas.List.Elements.{All-head, All-tail}
 use Rattle.vt_tree.specs.Parts.{Site, sites}
 use Rattle.vt_check.specs.declared.fault.CheckKind.{CheckKind}
 use Rattle.vt_check.specs.Laws.{NeverBoth, OneFault}
-use Rattle.vt_check.specs.Verdict.{checks, CheckRefuses, FirstFault, HasFirst, HasNone, IsAllowed, IsFaultOf, IsSound}
+use Rattle.vt_check.specs.Allowed.{checks, CheckRefuses, FirstFault, HasFirst, HasNone, IsAllowed, IsFaultOf, IsSound}
 
 -- of one call
 no_first : (kinds : List CheckKind) (s : Site) (found : CheckKind) → HasNone kinds s → HasFirst kinds s found → ⊥

@@ -6,7 +6,7 @@ use Rattle.vt_tree.specs.Parts.{Context, blocks, in_block, sites_of}
 use Rattle.vt_tree.specs.WellFormed.{IsWellFormed}
 use Rattle.vt_check.specs.declared.fault.CheckFault.{CheckFault}
 use Rattle.vt_check.specs.declared.fault.CheckFault.TheVariants.{At, NoMemory}
-use Rattle.vt_check.specs.Verdict.{IsAllowed, IsSound, CheckRefuses}
+use Rattle.vt_check.specs.Allowed.{IsAllowed, IsSound, CheckRefuses}
 
 -- what a checked tree is: one that a text is read as, and that the checks allow
 pub record IsChecked (tree : Block) : Type 0 where

@@ -2,8 +2,8 @@
 use Rattle.std.specs.Prelude.{◌≡◌, ℕ}
 use Rattle.vt_tree.specs.declared.statement.Block.{Block}
 use Rattle.vt_check.specs.declared.fault.CheckKind.{CheckKind}
-use Rattle.vt_check.specs.Judged.{IsJudged}
-use Rattle.vt_check.specs.Verdict.{IsAllowed, CheckRefuses}
+use Rattle.vt_check.specs.Verdict.{IsJudged}
+use Rattle.vt_check.specs.Allowed.{IsAllowed, CheckRefuses}
 
 -- no tree is both allowed and refused
 abbrev pub NeverBoth : Type 0

@@ -1,7 +1,7 @@
+pub mod Allowed
 pub mod Checked
 pub mod Conditions
 pub mod Faults
-pub mod Judged
 pub mod Laws
 pub mod Verdict
 pub mod Written

@@ -1,60 +1,29 @@
--- Which trees are allowed, and what the others are refused for.
-use Rattle.std.specs.Prelude.{◌≡◌, ℕ, true, List, [], ◌∷◌, ◌++◌, ◌⊎◌}
-use Rattle.std.specs.List.{All}
+-- What a tree comes to: that it is allowed, or the line and the kind of its first fault. The project's own.
+use Rattle.std.specs.Prelude.{◌≡◌, ◌⊎◌, ◌↔◌, ℕ}
+use Rattle.std.proofs.Common.{inl, inr}
 use Rattle.vt_tree.specs.declared.statement.Block.{Block}
-use Rattle.vt_tree.specs.Parts.{Site, sites}
 use Rattle.vt_check.specs.declared.fault.CheckKind.{CheckKind}
-use Rattle.vt_check.specs.declared.fault.CheckKind.TheVariants.{DefinePlace, Name, Taken, Method, Count, Opt, Block as WrongBlock, Params, Path}
-use Rattle.vt_check.specs.Conditions.{is_misplaced, is_misnamed, is_taken, is_no_method, is_miscounted, has_bad_option, has_wrong_block, has_wrong_params, HasRefusedPath}
+use Rattle.vt_check.specs.Allowed.{CheckRefuses, IsAllowed}
 
--- the call has the fault that this check speaks of
-abbrev pub Fails : CheckKind → Site → Type 0
-Fails DefinePlace s = is_misplaced s ≡ true
-Fails Name s = is_misnamed s ≡ true
-Fails Taken s = is_taken s ≡ true
-Fails Method s = is_no_method s ≡ true
-Fails Count s = is_miscounted s ≡ true
-Fails Opt s = has_bad_option s ≡ true
-Fails WrongBlock s = has_wrong_block s ≡ true
-Fails Params s = has_wrong_params s ≡ true
-Fails Path s = HasRefusedPath s
+-- the tree is allowed, or refused for a fault
+abbrev pub IsJudged : Block → Type 0
+IsJudged tree = IsAllowed tree ⊎ ((line : ℕ) × (kind : CheckKind) × CheckRefuses tree line kind)
 
--- the checks, in the order in which they are answered at one call
-unfoldable pub checks : List CheckKind
-checks = DefinePlace ∷ Name ∷ Taken ∷ Method ∷ Count ∷ Opt ∷ WrongBlock ∷ Params ∷ Path ∷ []
+-- what a tree comes to
+pub data Judged : Type 0 where
+  Allowed : Judged
+  Refused : ℕ → CheckKind → Judged
 
--- the call has no fault of these
-abbrev pub HasNone : List CheckKind → Site → Type 0
-HasNone [] s = Unit {0}
-HasNone (kind ∷ kinds) s = (Fails kind s → ⊥) × HasNone kinds s
+-- the verdict: that the tree is allowed, or else the line and the kind of its first fault
+abbrev pub judged_by : (tree : Block) → IsJudged tree → Judged
+judged_by tree (inl allowed) = Allowed
+judged_by tree (inr (line, kind, refuses)) = Refused line kind
 
--- this is the first of these faults that the call has
-abbrev pub HasFirst : List CheckKind → Site → CheckKind → Type 0
-HasFirst [] s found = ⊥
-HasFirst (kind ∷ kinds) s found = (Fails kind s × (found ≡ kind)) ⊎ ((Fails kind s → ⊥) × HasFirst kinds s found)
+-- however it was judged, the verdict is that a tree is allowed exactly where it is
+abbrev pub IsAllowedWhereAllowed : Type 0
+IsAllowedWhereAllowed = (tree : Block) (judged : IsJudged tree) → (judged_by tree judged ≡ Allowed) ↔ IsAllowed tree
 
--- a call without a fault
-unfoldable pub IsSound : Site → Type 0
-IsSound s = HasNone checks s
-
--- the fault that is answered at a call: the first in the order of the checks
-unfoldable pub IsFaultOf : Site → CheckKind → Type 0
-IsFaultOf s kind = HasFirst checks s kind
-
--- Of these calls, in the order of the tokens, the first with a fault stands in a statement of this line and has this one.
-pub record FirstFault (calls : List Site) (line : ℕ) (kind : CheckKind) : Type 0 where
-  pub before : List Site
-  pub call : Site
-  pub after : List Site
-  pub whole : calls ≡ before ++ call ∷ after
-  pub sound : All IsSound before
-  pub fault : IsFaultOf call kind
-  pub here : line ≡ call.context.line
-
--- a tree all of whose calls are without a fault
-unfoldable pub IsAllowed : Block → Type 0
-IsAllowed tree = All IsSound (sites tree)
-
--- what a tree is refused for
-unfoldable pub CheckRefuses : Block → ℕ → CheckKind → Type 0
-CheckRefuses tree line kind = FirstFault (sites tree) line kind
+-- however it was judged, the verdict is a line and a kind exactly where the tree is refused for them
+abbrev pub IsRefusedWhereRefused : Type 0
+IsRefusedWhereRefused =
+    (tree : Block) (judged : IsJudged tree) (line : ℕ) (kind : CheckKind) → (judged_by tree judged ≡ Refused line kind) ↔ CheckRefuses tree line kind

@@ -3,7 +3,7 @@
 ghost use Rattle.std.specs.Prelude.{◌≡◌, option_copied, IfErr, IfOk, IfSome, OnOk};
 ghost use Rattle.vt_tree.specs.WellFormed.{IsWellFormed};
 ghost use Rattle.vt_check.specs.Checked.{IsCause};
-ghost use Rattle.vt_check.specs.Verdict.{IsAllowed};
+ghost use Rattle.vt_check.specs.Allowed.{IsAllowed};
 
 use crate::context::Context;
 use crate::fault::CheckFault;

@@ -1,6 +1,6 @@
 //! Laws of the checks: each function does nothing, and its contract is the law.
 
-ghost use Rattle.vt_check.specs.Judged.{IsAllowedWhereAllowed, IsRefusedWhereRefused};
+ghost use Rattle.vt_check.specs.Verdict.{IsAllowedWhereAllowed, IsRefusedWhereRefused};
 ghost use Rattle.vt_check.specs.Laws.{AlwaysOne, NeverBoth, OneFault};
 
 /// No tree is both allowed and refused.

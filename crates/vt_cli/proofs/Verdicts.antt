@@ -11,9 +11,9 @@ use Rattle.vt_grammar.specs.Verdict.{Parsed, Tree, Refused}
 use Rattle.vt_grammar.proofs.Judging.{parsed_of}
 use Rattle.vt_grammar.proofs.VerdictLaws.{is_line, is_tree}
 use Rattle.vt_check.specs.declared.fault.CheckKind.{CheckKind}
-use Rattle.vt_check.specs.Judged.{Judged, Allowed, Refused as Faulty}
+use Rattle.vt_check.specs.Verdict.{Judged, Allowed, Refused as Faulty}
 use Rattle.vt_check.proofs.Judging.{judged_of}
-use Rattle.vt_check.specs.Verdict.{IsAllowed, CheckRefuses}
+use Rattle.vt_check.specs.Allowed.{IsAllowed, CheckRefuses}
 use Rattle.vt_check.proofs.JudgedLemmas.{allowed_where_allowed, refused_where_refused}
 use Rattle.vt_cli.specs.declared.verdict.Verdict.{Verdict}
 use Rattle.vt_cli.specs.declared.verdict.Verdict.TheVariants.{Good, Lex, Syntax, Check}

@@ -8,7 +8,7 @@ use Rattle.vt_grammar.specs.Tokens.{spelled}
 use Rattle.vt_grammar.specs.Verdict.{Parsed, Tree, Refused}
 use Rattle.vt_grammar.proofs.Judging.{parsed_of}
 use Rattle.vt_check.specs.Faults.{check_word}
-use Rattle.vt_check.specs.Judged.{Judged, Allowed, Refused as Faulty}
+use Rattle.vt_check.specs.Verdict.{Judged, Allowed, Refused as Faulty}
 use Rattle.vt_check.proofs.Judging.{judged_of}
 use Rattle.vt_text.specs.ScoreText.{newline}
 use Rattle.vt_cli.specs.declared.verdict.Verdict.{Verdict}

@@ -51,6 +51,13 @@ impl<T: Drop> Sequence<T> {
         self.items.as_slice()
     }
 
+    /// The list of the items of a `Vec`.
+    pub fn from_vec(items: Vec<T>) -> Sequence<T>
+        ensures { result ≡ items.items }
+    {
+        Sequence { items }
+    }
+
     /// The items in order, for the one who takes them over.
     pub fn into_vec(self) -> Vec<T>
         ensures { result.items ≡ self }

@@ -4,7 +4,7 @@ use Rattle.std.specs.List.{All}
 use Rattle.vt_tree.specs.declared.statement.Block.{Block, out-Block}
 use Rattle.vt_tree.specs.Parts.{Context, Walk, blocks_of, sites_of}
 use Rattle.vt_check.specs.Checked.{IsSoundBlock}
-use Rattle.vt_check.specs.Verdict.{IsSound}
+use Rattle.vt_check.specs.Allowed.{IsSound}
 
 -- the first block with this number
 abbrev pub block_with : ℕ → List Block → Option Block

@@ -6,7 +6,7 @@ use Rattle.vt_tree.specs.declared.expression.Call.{Call}
 use Rattle.vt_check.specs.declared.fault.CheckKind.{CheckKind}
 use Rattle.vt_check.specs.declared.fault.CheckFault.{CheckFault}
 use Rattle.vt_check.specs.declared.fault.CheckFault.TheVariants.{At, NoMemory}
-use Rattle.vt_check.specs.Verdict.{IsSound, IsFaultOf, FirstFault}
+use Rattle.vt_check.specs.Allowed.{IsSound, IsFaultOf, FirstFault}
 
 -- Ok where the calls among these parts have no fault, else the first fault of theirs
 abbrev pub Judgement : {U : Type 0} → List Part → Result U CheckFault → Type 0

@@ -1,5 +1,5 @@
 use Rattle.std.proofs.Common.{◌≡◌, Bool, true, false, inl, inr, refl, sym, ◌∙◌, true≢false}
-use Rattle.vt_check.specs.Verdict.{checks, IsSound, IsFaultOf}
+use Rattle.vt_check.specs.Allowed.{checks, IsSound, IsFaultOf}
 use Rattle.vt_check.proofs.first_fault.fault_of.Goals as goal
 
 is_so : (r b : Bool) → r ≡ b → r ≡ true → b ≡ true

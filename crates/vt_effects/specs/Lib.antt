@@ -1,0 +1,4 @@
+pub mod Operated
+pub mod Playing
+pub mod private
+pub mod Results

@@ -1,0 +1,4 @@
+pub mod GivenInOneList
+pub mod Notes
+pub mod private
+pub mod Reading

@@ -1,0 +1,2 @@
+-- What only models of private things cite.
+pub mod Numbers

@@ -1,0 +1,6 @@
+mod Asks
+mod Finds
+mod Matching
+mod Opening
+mod Rounds
+mod Workers
