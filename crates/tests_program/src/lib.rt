@@ -8,4 +8,6 @@ mod generated;
 #[cfg(test)]
 mod io;
 #[cfg(test)]
+mod state;
+#[cfg(test)]
 mod text;
