@@ -8,8 +8,7 @@ use vt_lex::{LexFault, Token, TokenKind, lex, text_value};
 /// return and a backquote a tab. A token is its kind, its bytes, `g` for a gap, `t` for tight, and its line where that is not the
 /// line of the token before it. The kinds: `;` newline, n name, l label, k keyword, r reserved word, s symbol, w whole, d
 /// decimal, t text, o operator.
-fn rows() -> &'static str {
-    r##"// nothing, blanks, comments
+const ROWS: &str = r##"// nothing, blanks, comments
  => none
  `~ => none
 "é" # é @ => t0-4g
@@ -144,8 +143,7 @@ a:^b => l0-2g ;2-3t n3-4g@2
 // 64 and 65 bytes
 aaaaaaaaaaaaaaaaaaaaaaaaaaaaaaaaaaaaaaaaaaaaaaaaaaaaaaaaaaaaaaaa => n0-64g
 aaaaaaaaaaaaaaaaaaaaaaaaaaaaaaaaaaaaaaaaaaaaaaaaaaaaaaaaaaaaaaaa: => l0-65g
-:aaaaaaaaaaaaaaaaaaaaaaaaaaaaaaaaaaaaaaaaaaaaaaaaaaaaaaaaaaaaaaaa => s0-65g"##
-}
+:aaaaaaaaaaaaaaaaaaaaaaaaaaaaaaaaaaaaaaaaaaaaaaaaaaaaaaaaaaaaaaaa => s0-65g"##;
 
 /// The byte that a byte of a row stands for.
 fn byte_of(byte: u8) -> u8 {
@@ -254,7 +252,7 @@ fn holds(alloc: Global, row: &str) -> Option<bool> {
 
 /// The first row that does not hold, or nothing.
 fn first_wrong(alloc: Global) -> Option<&'static str> {
-    for row in rows().lines() {
+    for row in ROWS.lines() {
         if !row.starts_with("// ") && holds(alloc, row) != Some(true) {
             return Some(row);
         }

@@ -11,8 +11,7 @@ use vt_tree::Block;
 
 /// Texts, each with the shape of its tree or its fault behind ` => `, below headings that begin with `-- `. In a text `\n`
 /// is a newline, and in a shape `\t` a tab.
-fn rows() -> &'static str {
-    r#"-- literals and names are themselves
+const ROWS: &str = r#"-- literals and names are themselves
 nil => {0 1:nil}
 true => {0 1:true}
 false => {0 1:false}
@@ -153,8 +152,7 @@ x.if => syntax 1
 :n :n => syntax 1
 f :n :n => syntax 1
 ] => syntax 1
-[:n,] => syntax 1"#
-}
+[:n,] => syntax 1"#;
 
 /// The tree of a text, or where it is refused.
 fn read(alloc: Global, text: &[u8]) -> Result<Result<Block, SyntaxFault>, LexFault>
@@ -200,7 +198,7 @@ fn holds(alloc: Global, row: &str) -> Option<bool> {
 
 /// The first row that does not hold, or nothing.
 fn first_wrong(alloc: Global) -> Option<&'static str> {
-    for row in rows().lines() {
+    for row in ROWS.lines() {
         if !row.starts_with("-- ") && holds(alloc, row) != Some(true) {
             return Some(row);
         }
