@@ -17,7 +17,7 @@ live_loop :a, init: 1 do |n|; at n do |t|; play t; end; density 2 do |i|; sleep 
 x = 1; 1.foo => line 1: method";
 
 /// The tree of a text, checked.
-fn checked_of(alloc: Global, text: &[u8]) -> Option<Result<Checked, CheckFault>>
+pub(crate) fn checked_of(alloc: Global, text: &[u8]) -> Option<Result<Checked, CheckFault>>
     requires { length text.now ≤ 1048576 }
 {
     let tokens = match lex(alloc, text, 1) {

@@ -8,4 +8,6 @@ mod lex;
 #[cfg(test)]
 mod parse;
 #[cfg(test)]
+mod reach;
+#[cfg(test)]
 mod run;

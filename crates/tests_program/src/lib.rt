@@ -1,4 +1,4 @@
-//! Tests of ends, events, score texts and generated sessions over the public calls: one file a library.
+//! Tests of ends, events, score texts, sessions and generated sessions over the public calls: one file a library.
 #![tactic(auto)]
 
 #[cfg(test)]
@@ -7,6 +7,8 @@ mod event;
 mod generated;
 #[cfg(test)]
 mod io;
+#[cfg(test)]
+mod session;
 #[cfg(test)]
 mod state;
 #[cfg(test)]

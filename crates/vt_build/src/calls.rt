@@ -2,7 +2,7 @@
 ghost use Rattle.std.specs.Prelude.{◌≡◌, ◌∷◌, [], Some, None, false, OnErr};
 ghost use Rattle.vt_grammar.specs.Grammar.{arguments_of, has_label, labels_begun};
 ghost use Rattle.vt_build.specs.private.Made.{Makes, Unless};
-ghost use Rattle.vt_grammar.specs.Trees.{call_of, call_with, dot_value, gathered, named_value, no_arguments, plain, wrapped};
+ghost use Rattle.vt_grammar.specs.Trees.{call_of, call_with, dot_call, gathered, named_tree, no_arguments, plain, wrapped};
 ghost use Rattle.vt_grammar.specs.Values.{label_name};
 ghost use Rattle.vt_tree.specs.declared.expression.Node.TheVariants as nodes;
 
@@ -119,7 +119,7 @@ pub fn make_named(
     name: &[u8],
     given: Option<Arguments>,
 ) -> Result<Boxed<Expr>, Fault>
-    ensures { Makes (named_value name.now given) result }
+    ensures { Makes (named_tree name.now given) result }
 {
     match given {
         None => {
@@ -160,7 +160,7 @@ pub fn make_dot(
     given: Option<Arguments>,
     block: Option<Block>,
 ) -> Result<Call, Fault>
-    ensures { Makes (dot_value name.now given block) result }
+    ensures { Makes (dot_call name.now given block) result }
 {
     let wrapped = given.is_some();
     let name = name_of(alloc, name)?;

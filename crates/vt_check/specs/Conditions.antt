@@ -18,6 +18,7 @@ use Rattle.vt_check.specs.Written.{is_call, is_among, row_of, args_of, options_o
 unfoldable pub is_misplaced : Site → Bool
 is_misplaced s = is_call (codes "define") s && not s.context.outermost
 
+-- there is such an argument, and it is no literal symbol
 abbrev pub is_other_than_symbol : Option Expr → Bool
 is_other_than_symbol None = false
 is_other_than_symbol (Some e) = is_none (symbol_of e)
@@ -32,10 +33,12 @@ is_misnamed s =
     (is_among (codes "define" ∷ codes "live_loop" ∷ []) s && is_other_than_symbol (first_of (args_of s)))
     || (is_call (codes "in_thread") s && has_label_without_symbol (codes "name") (options_of s))
 
+-- there is such a name, and it is that of a call of the table
 abbrev pub is_in_table : Option (List ℕ) → Bool
 is_in_table None = false
 is_in_table (Some name) = is_some (call_row name)
 
+-- there is such an argument, and it is the literal symbol of such a name
 abbrev pub is_table_symbol : Option Expr → Bool
 is_table_symbol None = false
 is_table_symbol (Some e) = is_in_table (symbol_of e)
@@ -44,6 +47,7 @@ is_table_symbol (Some e) = is_in_table (symbol_of e)
 unfoldable pub is_taken : Site → Bool
 is_taken s = is_call (codes "define") s && is_table_symbol (first_of (args_of s))
 
+-- no row, or one of a call that is not made after a dot
 abbrev pub has_no_dot : Option CallRow → Bool
 has_no_dot None = true
 has_no_dot (Some row) = not row.dot
@@ -86,12 +90,14 @@ takes_option s label = is_among open_calls s || list_any (λ row. is_call row.0 
 unfoldable pub has_bad_option : Site → Bool
 has_bad_option s = (is_some (row_of s) && list_any (λ option. not (takes_option s option.0)) (options_of s)) || has_twice (λ option. option.0) (options_of s)
 
+-- Whether a block is missing or one too many: by whether it is there, whether the call is written out, and what its row asks of a block; a name without a row takes none.
 abbrev pub is_block_wrong : Bool → Bool → Option Need → Bool
 is_block_wrong there written None = there
 is_block_wrong there written (Some Must) = not there && written
 is_block_wrong there written (Some Without) = there
 is_block_wrong there written (Some May) = false
 
+-- what a row asks of a block, if there is a row
 abbrev pub need_of : Option CallRow → Option Need
 need_of None = None
 need_of (Some row) = Some row.block
@@ -109,6 +115,7 @@ giving_calls = codes "times" ∷ codes "each" ∷ codes "map" ∷ codes "at" ∷
 abbrev pub given_by : Site → ℕ
 given_by s = cond (is_call (codes "define") s) 16 (cond (is_among giving_calls s) 1 0)
 
+-- there is such a block, and it has more parameters than its call gives, or two of one name
 abbrev pub has_wrong_params_in : Site → Option Block → Bool
 has_wrong_params_in s None = false
 has_wrong_params_in s (Some block) = nat_lt (given_by s) (length (out-Block block).params) || has_twice (λ name. name) (out-Block block).params
@@ -117,6 +124,7 @@ has_wrong_params_in s (Some block) = nat_lt (given_by s) (length (out-Block bloc
 unfoldable pub has_wrong_params : Site → Bool
 has_wrong_params s = has_wrong_params_in s (block_of s)
 
+-- the first byte is `/`
 abbrev pub begins_with_slash : List ℕ → Bool
 begins_with_slash [] = false
 begins_with_slash (b ∷ bytes) = b == 47
@@ -125,10 +133,12 @@ begins_with_slash (b ∷ bytes) = b == 47
 abbrev pub IsRefused : (List ℕ → Type 0) → List ℕ → Type 0
 IsRefused IsGood text = MatchBool (begins_with_slash text) (IsGood text → ⊥) (is_symbol_name text ≡ false)
 
+-- there is a text, and this holds of it
 abbrev pub IfText : Option (List ℕ) → (List ℕ → Type 0) → Type 0
 IfText None P = ⊥
 IfText (Some text) P = P text
 
+-- the literal text that such an argument is
 abbrev pub first_text : Option Expr → Option (List ℕ)
 first_text None = None
 first_text (Some e) = text_of e
@@ -141,6 +151,7 @@ IsFirstRefused IsGood s = IfText (first_text (first_of (args_of s))) (IsRefused 
 abbrev pub IsRefusedOption : (List ℕ → Type 0) → List ℕ → List ℕ × Expr → Type 0
 IsRefusedOption IsGood label option = (bytes_eq label option.0 ≡ true) × IfText (text_of option.1) (IsRefused IsGood)
 
+-- one of the options is such a one
 abbrev pub HasRefusedOption : (List ℕ → Type 0) → List ℕ → List (List ℕ × Expr) → Type 0
 HasRefusedOption IsGood label [] = ⊥
 HasRefusedOption IsGood label (option ∷ options) = IsRefusedOption IsGood label option ⊎ HasRefusedOption IsGood label options

@@ -3,19 +3,15 @@ use Rattle.std.specs.Prelude.{ℕ, ◌+◌, Bool, true, false, ◌||◌, not, co
 use Rattle.std.specs.List.{list_any}
 use Rattle.vt_table.specs.Calls.{call_row}
 use Rattle.vt_table.specs.declared.calls.CallRow.{CallRow}
-use Rattle.vt_tree.specs.declared.expression.Node.{Node, out-Node}
+use Rattle.vt_tree.specs.declared.expression.Node.{out-Node}
 use Rattle.vt_tree.specs.declared.expression.Node.TheOpen.{Node-F}
-use Rattle.vt_tree.specs.declared.expression.Call.{Call, out-Call}
+use Rattle.vt_tree.specs.declared.expression.Call.{out-Call}
 use Rattle.vt_tree.specs.declared.expression.Expr.{Expr, out-Expr}
-use Rattle.vt_tree.specs.declared.expression.Link.{Link}
 use Rattle.vt_tree.specs.declared.expression.Literal.{Literal}
 use Rattle.vt_tree.specs.declared.expression.Literal.TheVariants.{Text, Sym}
-use Rattle.vt_tree.specs.declared.statement.Arm.{Arm}
 use Rattle.vt_tree.specs.declared.statement.Block.{Block}
-use Rattle.vt_tree.specs.declared.statement.Simple.{Simple}
-use Rattle.vt_tree.specs.declared.statement.Stmt.{Stmt}
-use Rattle.vt_tree.specs.declared.statement.StmtForm.{StmtForm}
 use Rattle.vt_tree.specs.Parts.{Site}
+use Rattle.vt_tree.specs.Layers.{OfTrees}
 
 -- the name of a call
 abbrev pub name_of : Site → List ℕ
@@ -37,12 +33,15 @@ methods = codes "times" ∷ codes "each" ∷ codes "map" ∷ []
 abbrev pub row_of : Site → Option CallRow
 row_of s = call_row (name_of s)
 
+-- its positional arguments, without the receiver of a dot
 abbrev pub args_of : Site → List Expr
 args_of s = (out-Call s.call).args
 
+-- its labelled arguments
 abbrev pub options_of : Site → List (List ℕ × Expr)
 options_of s = (out-Call s.call).options
 
+-- its block, if it has one
 abbrev pub block_of : Site → Option Block
 block_of s = (out-Call s.call).block
 
@@ -62,11 +61,8 @@ is_written_out s = has_arguments s || s.context.dotted
 abbrev pub count_of : Site → ℕ
 count_of s = cond s.context.dotted 1 0 + length (args_of s)
 
--- a layer of an expression
-abbrev pub NodeLayer : Type 0
-NodeLayer = Node-F Node Simple StmtForm Call Expr Link Arm Block Stmt
-
-abbrev pub literal_at : NodeLayer → Option Literal
+-- the literal that a node is
+abbrev pub literal_at : OfTrees Node-F → Option Literal
 literal_at (Node-F.Literal value) = Some value
 literal_at _ = None
 
@@ -74,10 +70,12 @@ literal_at _ = None
 abbrev pub literal_of : Expr → Option Literal
 literal_of e = literal_at (out-Node (out-Expr e).node)
 
+-- the name of a literal symbol
 abbrev pub symbol_in : Literal → Option (List ℕ)
 symbol_in (Sym name) = Some name
 symbol_in _ = None
 
+-- the value of a literal text
 abbrev pub text_in : Literal → Option (List ℕ)
 text_in (Text value) = Some value
 text_in _ = None

@@ -45,10 +45,6 @@ pub negated_is : (z : ℤ) (d : ℕ) → gcd (unsigned_abs z) d ≡ 1 → 0 < d 
 negated_is z d h positive low high =
     lowest_is (neg_ℤ z) d (ap (λ n. gcd n d) (same_size z) ∙ h) positive (subst (λ n. n < 2 ^ 63) (sym (same_size z)) low) high
 
--- a tempo is not 0
-pub tempo_not_zero : (bpm : Fraction) → IsTrue (is_tempo bpm) → bpm.numer ≢ pos 0
-tempo_not_zero bpm above e = false≢true (sym (ap (λ z. int_lt (pos 0) z) e) ∙ above)
-
 pub sixty_not_zero : (f : Fraction) → f ≡ whole (pos 60) → f.numer ≢ pos 0
 sixty_not_zero f is e = absurd (omega (arith, size)) where
   size : ◌≡◌ {A = ℕ} 60 0

@@ -1,21 +1,14 @@
 -- What a function answers that plays notes, beside the definition of the call: own.
 use Rattle.std.specs.Prelude.{◌≡◌, List, map, Result, Ok, Err, IsOk}
-use Rattle.vt_frac.specs.Fraction.{Fraction}
 use Rattle.vt_value.specs.declared.fault.FaultKind.{FaultKind}
 use Rattle.vt_value.specs.declared.fault.ValueFault.{ValueFault}
 use Rattle.vt_value.specs.declared.fault.ValueFault.TheVariants.{Fault, NoMemory}
 use Rattle.vt_value.specs.declared.value.Value.{Value}
 use Rattle.vt_value.specs.declared.value.Value.TheVariants.{Nil}
 use Rattle.vt_event.specs.Pairs.{Pairs}
-use Rattle.vt_given.specs.Notes.{sounding}
 use Rattle.vt_run.specs.calls.Deeds.{Deed}
-use Rattle.vt_run.specs.calls.PatternCalls.{Item}
 use Rattle.vt_run.specs.calls.PlayCalls.{plays_note}
 use Rattle.vt_run.specs.declared.state.State.{State}
-
--- an item of a pattern: its notes that sound, and the beats of the rest behind them
-abbrev pub sounding_item : Item → List Value × Fraction
-sounding_item item = (sounding item.0, item.1)
 
 -- The notes that a deed plays with these options, one event for each, in order. It gives nil and changes nothing. Want of memory comes in place of the notes only.
 abbrev pub Plays : Result Deed FaultKind → Pairs → State → Result (List Value) ValueFault → Type 0

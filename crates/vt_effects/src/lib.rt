@@ -2,6 +2,7 @@
 #![tactic(auto)]
 
 mod announcements;
+mod costs;
 mod messages;
 mod operators;
 mod places;
@@ -18,6 +19,7 @@ pub use announcements::{
     body_event, defined_event, ended_event, fault_event, fx_event, inner_pattern, name_path,
     started_event, stop_pattern, took_event, turn_event,
 };
+pub use costs::{emit_cost, node_size, pair_sizes, spawn_cost};
 pub use messages::{a_pattern, cue, puts, set};
 pub use operators::{index, is_decided, literal_value, operated, unary};
 pub use places::place_in;
@@ -29,5 +31,5 @@ pub use settings::{
 };
 pub use threads::{LoopParts, loop_parts, thread_role};
 pub use ticks::{look, tick, tick_reset, tick_set};
-pub use time::{current_bpm, rest_seconds, rt, vt};
+pub use time::{current_bpm, rest_of, rest_seconds, rt, vt};
 pub use turns::density_of;

@@ -4,13 +4,12 @@ ghost use Rattle.std.specs.Prelude.{◌≡◌, ◌+ℤ◌, pos, negsuc, codes, u
 ghost use Rattle.std.specs.Option.{option_copied};
 ghost use Rattle.vt_value.specs.Answers.{Gives};
 ghost use Rattle.vt_value.specs.Arithmetic.{fitting};
-ghost use Rattle.vt_run.specs.calls.Arguments.{has_item, ring_if_given};
 ghost use Rattle.vt_run.specs.calls.TickCalls.{counted, counter_and_number, counter_name, counter_of, look_call, ring_and_counter, tick_call, tick_reset_call, tick_set_call, with_counter, without_counter};
 ghost use Rattle.vt_effects.specs.Results.{Changes};
 
 use std::alloc::Global;
 use vt_frac::{Name, NoMemory};
-use vt_given::{Given, integer, one_or_none, ring_argument, symbol_argument};
+use vt_given::{Given, has_item, integer, one_or_none, ring_if_given, symbol_argument};
 use vt_ring::{ring_at, whole_argument};
 use vt_run::{State, Ticks};
 use vt_value::{FaultKind, Integer, Symbol, Value, ValueFault};
@@ -140,27 +139,6 @@ fn counter_name(named: Option<&Value>) -> Result<&[u8], FaultKind>
     match named {
         None => Ok(b"default"),
         Some(value) => Ok(symbol_argument(value)?.as_bytes()),
-    }
-}
-
-/// A ring that need not be given.
-fn ring_if_given(value: Option<&Value>) -> Result<Option<&[Value]>, FaultKind>
-    ensures ok { IfOk result (λ ring. ring_if_given (option_copied value.entry) ≡ Ok (option_copied ring)) }
-    ensures err { IfErr result (λ kind. ring_if_given (option_copied value.entry) ≡ Err kind) }
-{
-    match value {
-        None => Ok(None),
-        Some(value) => Ok(Some(ring_argument(value)?)),
-    }
-}
-
-/// No ring is given, or it has an item.
-fn has_item(ring: Option<&[Value]>) -> bool
-    ensures { result ≡ has_item (option_copied ring.entry) }
-{
-    match ring {
-        None => true,
-        Some(items) => !items.is_empty(),
     }
 }
 

@@ -4,24 +4,16 @@ ghost use Rattle.std.specs.Prelude.{◌≡◌, Ok};
 ghost use Rattle.vt_ring.specs.Answers.{and_then};
 ghost use Rattle.vt_run.specs.calls.Arguments.{Given};
 ghost use Rattle.vt_run.specs.calls.Deeds.{value_of, valued};
-ghost use Rattle.vt_run.specs.calls.TimeCalls.{beats_of, current_bpm_call, rest_of, rt_call, seconds_of, vt_call};
+ghost use Rattle.vt_run.specs.calls.TimeCalls.{beats_of, current_bpm_call, rest_of, rt_call, vt_call};
 
 use vt_frac::Frac;
-use vt_given::{Given, a_number, exact_quotient, is_negative, whole};
+use vt_given::{Given, a_number, exact_quotient, is_negative, seconds_of, whole};
 use vt_ring::{exact_product, exact_sum};
-use vt_run::{State, Tempo};
+use vt_run::State;
 use vt_value::{FaultKind, Value};
 
-/// So many beats in seconds: `beats * (60 / bpm)`.
-pub(crate) fn seconds_of(beats: Frac, bpm: &Tempo) -> Result<Frac, FaultKind>
-    ensures { result ≡ seconds_of beats bpm.now }
-{
-    let beat = exact_quotient(whole(60), bpm.get())?;
-    exact_product(beats, beat)
-}
-
 /// The seconds of a rest of so many beats. `Overflow` where they, or the time after them, do not fit.
-pub(crate) fn rest_of(state: &State, beats: Frac) -> Result<Frac, FaultKind>
+pub fn rest_of(state: &State, beats: Frac) -> Result<Frac, FaultKind>
     ensures { result ≡ rest_of state.now beats }
 {
     let seconds = seconds_of(beats, &state.settings.bpm)?;

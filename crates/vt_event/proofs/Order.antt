@@ -1,6 +1,6 @@
 -- The laws of the order of places.
-use Rattle.std.proofs.Common.{◌≡◌, ℕ, ◌<◌, List, [], ◌∷◌, ◌++◌, ◌⊎◌, inl, inr, refl, sym, ◌∙◌, ap, arith, subst, Bool, true, false, true≢false, ℤ, ◌<ℤ◌}
-use Rattle.std.specs.Prelude.{◌==◌, ◌&&◌}
+use Rattle.std.proofs.Common.{◌≡◌, ℕ, ◌<◌, List, [], ◌∷◌, ◌++◌, ◌⊎◌, inl, inr, refl, sym, ◌∙◌, ap, arith, subst, true, true≢false, ℤ, ◌<ℤ◌}
+use Rattle.std.specs.Prelude.{◌==◌}
 use Rattle.std.specs.declared.cmp.Ordering.{Ordering}
 use Rattle.std.specs.declared.cmp.Ordering.TheVariants.{Less, Equal, Greater}
 use Rattle.std.specs.Ordering.{nat_cmp, int_cmp, int_eq, is_eq, ordering_then, ordering_reverse}
@@ -10,6 +10,7 @@ use Rattle.std.proofs.lemmas.Cmp.{ranked, by_ranked, int_ranked, tied_itself, na
 use Rattle.vt_frac.specs.Fraction.{Fraction}
 use Rattle.vt_frac.specs.Order.{order_of}
 use Rattle.vt_frac.specs.OrderLaws.{order_total, order_ties, same_parts}
+use Rattle.vt_frac.proofs.DecimalLemmas.{both_true}
 use Rattle.vt_event.specs.declared.place.Place.{Place}
 use Rattle.vt_event.specs.Order.{place_order, thread_order, IsBefore, IsThreadBefore, IsLexicographicallyBefore}
 use Rattle.vt_event.specs.OrderLaws.{place_total, thread_total}
@@ -22,11 +23,6 @@ number-less a b h = ranked a b Less (sym h)
 
 number-equal : (a b : ℕ) → nat_cmp a b ≡ Equal → a ≡ b
 number-equal a b h = ranked a b Equal (sym h)
-
-both_true : (b c : Bool) → (b && c) ≡ true → (b ≡ true) × (c ≡ true)
-both_true true true h = (refl, refl)
-both_true true false h = absurd (true≢false (sym h))
-both_true false c h = absurd (true≢false (sym h))
 
 -- a tie is a tie in each part
 both_equal : (o r : Ordering) → ordering_then o r ≡ Equal → (o ≡ Equal) × (r ≡ Equal)

@@ -5,6 +5,8 @@ use Rattle.vt_frac.specs.Divisor.{gcd}
 use Rattle.vt_frac.specs.Fraction.{Fraction, IsFraction, whole}
 use Rattle.vt_frac.specs.Names.{is_symbol_name}
 use Rattle.vt_frac.specs.Order.{value_order}
+use Rattle.vt_path.specs.declared.inner_path.InnerKind.TheVariants.{Stop}
+use Rattle.vt_path.specs.Inner.{inner_of}
 use Rattle.vt_path.specs.Path.{IsPath, IsSegment}
 use Rattle.vt_path.proofs.NameLemmas.{symbol_segment}
 use Rattle.vt_value.specs.declared.value.Value as V
@@ -13,11 +15,12 @@ use Rattle.vt_value.specs.declared.value.Value.TheFolds.{every_made-Value}
 use Rattle.vt_value.specs.declared.value.Value.TheOpen.{Value-F}
 use Rattle.vt_value.specs.declared.value.Value.TheVariants.{Nil, Ring, Whole, rolls-Nil, rolls-Ring, rolls-Whole}
 use Rattle.vt_value.specs.Arithmetic.{are_within}
-use Rattle.vt_value.specs.Kinds.{is_nil, items_of, ring_layer, ring_of, text_bytes}
+use Rattle.vt_value.specs.Kinds.{items_of, ring_layer, ring_of, text_bytes}
 use Rattle.vt_value.specs.Limits.{IsWithin, WithinLayer}
 use Rattle.vt_value.proofs.Layers.{size-other}
 use Rattle.vt_event.specs.Event.{EventView}
 use Rattle.vt_event.specs.Orderly.{AreOrderlyTimes, IsInput, cue_of_60, input_place, is_given, set_to_60, stop_of_a}
+use Rattle.vt_event.proofs.EventFields.{cue_fields, ended_fields, set_fields}
 
 cue_name : IsTrue (is_symbol_name (codes "cue"))
 unfolding is_symbol_name
@@ -44,10 +47,6 @@ ring_of_ring items = ap ring_of (sym (rolls-Ring items)) ∙ ap ring_layer (out-
 given : is_given (Whole (pos 60)) ≡ true
 unfolding V.out-Value denote.Hole.Carrier.out
 given = refl
-
-nil_is : IsTrue (is_nil Nil)
-unfolding V.out-Value denote.Hole.Carrier.out
-nil_is = refl
 
 no_text : None ≡ text_bytes (Whole (pos 60))
 unfolding V.out-Value denote.Hole.Carrier.out
@@ -137,15 +136,7 @@ cue_is_input time number = record {
     values = subst (λ o. IsSomeAnd o (All (λ item. IsTrue (is_given item)))) (sym (ring_of_ring (Whole (pos 60) ∷ [])))
         (All-cons (λ item. IsTrue (is_given item)) (Whole (pos 60)) [] given (All-nil (λ item. IsTrue (is_given item))));
   };
-  fields = record {
-    path_with_kind = refl;
-    no_name = λ e. refl;
-    value_with_kind = refl;
-    no_options = λ e. refl;
-    no_fx = λ e. refl;
-    body_with_kind = refl;
-    no_line = λ e. refl;
-  };
+  fields = cue_fields (input_place time number) (codes "cue" ∷ codes "a" ∷ []) (Ring (Whole (pos 60) ∷ []));
   within = ring_within_limits;
 }
 
@@ -153,15 +144,7 @@ set_is_input : (time : Fraction) (number : ℕ) → IsInput number (set_to_60 (i
 set_is_input time number = record {
   place = refl;
   form = record { path = path_of_a (codes "set") set_name; value = given };
-  fields = record {
-    path_with_kind = refl;
-    no_name = λ e. refl;
-    value_with_kind = refl;
-    no_options = λ e. refl;
-    no_fx = λ e. refl;
-    body_with_kind = refl;
-    no_line = λ e. refl;
-  };
+  fields = set_fields (input_place time number) (codes "set" ∷ codes "a" ∷ []) (Whole (pos 60));
   within = number_within;
 }
 
@@ -169,15 +152,7 @@ stop_is_input : (time : Fraction) (number : ℕ) → IsInput number (stop_of_a (
 stop_is_input time number = record {
   place = refl;
   form = record { name = codes "a"; symbol = a_name; whole = refl };
-  fields = record {
-    path_with_kind = refl;
-    no_name = λ e. refl;
-    value_with_kind = nil_is;
-    no_options = λ e. refl;
-    no_fx = λ e. refl;
-    body_with_kind = refl;
-    no_line = λ e. refl;
-  };
+  fields = ended_fields (input_place time number) (inner_of Stop (codes "a"));
   within = nil_within;
 }
 

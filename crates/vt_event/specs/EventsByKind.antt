@@ -40,9 +40,11 @@ nameless_event place kind path value body line = record { place = place; kind = 
 abbrev pub path_event : Place → Kind → Path → Value → EventView
 path_event place kind path value = nameless_event place kind (Some path) value None 0
 
+-- a cue is published at a path, with a value
 abbrev pub cue_event : Place → Path → Value → EventView
 cue_event place path value = path_event place Cue path value
 
+-- a value is set at a path
 abbrev pub set_event : Place → Path → Value → EventView
 set_event place path value = path_event place Set path value
 
@@ -50,6 +52,7 @@ set_event place path value = path_event place Set path value
 abbrev pub took_event : Place → Path → Value → EventView
 took_event place path value = path_event place Took path value
 
+-- a named thread or a live loop starts
 abbrev pub started_event : Place → Path → EventView
 started_event place path = path_event place Started path Nil
 

@@ -59,6 +59,7 @@ is_note value = is_some (number_of value)
 abbrev pub is_sample_name : Value → Bool
 is_sample_name value = is_some (symbol_of value) || is_some (text_bytes value)
 
+-- there is a whole number, and it is one of 32 bits
 abbrev pub is_count : Option ℤ → Bool
 is_count None = false
 is_count (Some (pos n)) = nat_lt n (2 ^ 32)

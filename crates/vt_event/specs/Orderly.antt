@@ -1,4 +1,4 @@
--- Texts and inputs as a session gives them: own.
+-- When the texts and the inputs of a session are orderly, and what an input is: own.
 use Rattle.std.specs.Prelude.{◌≡◌, ℕ, ◌+◌, ◌≤◌, pos, ◌≤ℤ◌, List, [], ◌∷◌, Bool, true, false, Some, IsSomeAnd, IsTrue, All, codes, length, map, slice_get}
 use Rattle.std.specs.List.Sorted.{IsSorted}
 use Rattle.vt_frac.specs.Fraction.{Fraction, IsFraction, whole}
@@ -25,6 +25,7 @@ pub record AreOrderlyTimes (times : List Fraction) : Type 0 where
   pub start : All (λ time. pos 0 ≤ℤ time.numer) times
   pub rising : IsSorted value_order times
 
+-- the layer of a value that may be given with an input
 abbrev pub given_layer : {A : Type 0} → Value-F A → Bool
 given_layer (Value-F.Whole n) = true
 given_layer (Value-F.Part f) = true
@@ -70,7 +71,7 @@ pub record IsInput (number : ℕ) (event : EventView) : Type 0 where
   pub fields : IsEvent event
   pub within : IsWithin event.value
 
--- the texts begin at these times, and the inputs are these events
+-- Texts that begin at these times, and these inputs, are orderly: so are the times of each, and each input is one with its number from 1. Empty lists are orderly.
 pub record AreOrderly (text_times : List Fraction) (inputs : List EventView) : Type 0 where
   pub texts : AreOrderlyTimes text_times
   pub inputs_times : AreOrderlyTimes (map (λ input. input.place.time) inputs)

@@ -1,3 +1,5 @@
 pub mod GivenLemmas
 pub mod PathLemmas
+pub mod PatternLemmas
+pub mod RoundLemmas
 pub mod SoundingLemmas

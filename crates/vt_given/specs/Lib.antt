@@ -1,4 +1,5 @@
 pub mod GivenInOneList
 pub mod Notes
+pub mod Patterns
 pub mod private
 pub mod Reading

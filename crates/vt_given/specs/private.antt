@@ -1,2 +1,3 @@
 -- What only models of private things cite.
 pub mod Numbers
+pub mod Rounds

@@ -77,7 +77,7 @@ impl Model for Notes {
 
 impl Notes {
     /// No notes.
-    fn new(alloc: Global) -> Notes
+    pub(crate) fn new(alloc: Global) -> Notes
         ensures { result ≡ [] }
     {
         Notes {

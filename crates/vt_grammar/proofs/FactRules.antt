@@ -18,7 +18,7 @@ use Rattle.vt_grammar.specs.declared.terminals.Terminal.TheVariants as terminals
 use Rattle.vt_grammar.specs.Form.{Form}
 use Rattle.vt_grammar.specs.Marks.{Mark, begins_block}
 use Rattle.vt_grammar.specs.Values.{literal_of}
-use Rattle.vt_grammar.specs.Trees.{Argument, Left, positional, labelled, no_arguments, plain, call_of, named_value, dot_value, is_bare_get, with_part, with_parts, op_of, sign_of, chain_tree, comparison, takes_block, with_block, set_of, is_unless, form_tree, arm_tree, block_tree, present}
+use Rattle.vt_grammar.specs.Trees.{Argument, Left, positional, labelled, no_arguments, plain, call_of, named_tree, dot_call, is_bare_get, with_part, with_parts, op_of, sign_of, chain_tree, comparison, takes_block, with_block, set_of, is_unless, form_tree, arm_tree, block_tree, present}
 use Rattle.vt_grammar.specs.Grammar.{Opened, is_literal, is_paren_open, is_list_open, is_sign, is_term_op, is_sum_op, is_comp_op, is_conj_op, is_disj_op, is_expr_op, is_set, is_condition, terminal, literal, named, primary, dot, part, after_part, postfix, signed, unary, link, chain, term, sum, comp, conj, disj, negated, negation, expr, labelled_arg, plain_arg, arg, next_arg, labels_begun, has_label, args, next_item, items, command, cond_form, block_where, rhs, assign, simple, modifier, stmt, line, block, next_param, names_of, params, elsif, otherwise, arguments_of, all_of, parens_of, list_of, call_of_args, index_of, braces_of, doblock_of, iff_of, opened}
 use Rattle.vt_grammar.proofs.TerminalSets.{includes, disjoint, sub}
 use Rattle.vt_grammar.proofs.Facts.{Facts, IsNamed, IsBegun, AreGiven, IsGuard, no_given}
@@ -167,12 +167,12 @@ module _ {X : Type 0} {m : Measure X} (A : Facts m) where
       A.chain_is chains.Comp e (l ∷ []) ns ms refl (A.as_value e ns h) (record { prefix = ms; rest = []; whole = sym (append-nil ms); first = g.is; second = refl })
 
   -- names and calls
-  named_of : (t : Mark) (given : Option Arguments) (ns ms : List X) → IsNamed m t ns → Maybe (AreGiven A.IsValue A.IsOption) given ms → A.IsExpr (named_value t.bytes given) (ns ++ ms)
+  named_of : (t : Mark) (given : Option Arguments) (ns ms : List X) → IsNamed m t ns → Maybe (AreGiven A.IsValue A.IsOption) given ms → A.IsExpr (named_tree t.bytes given) (ns ++ ms)
   named_of t None ns ms n h = subst (A.IsExpr (plain (nodes.Name t.bytes))) (sym (ap (λ z. ns ++ z) h.is ∙ append-nil ns)) (A.name_is t ns n)
   named_of t (Some given) ns ms n h = A.called_is t true given ns ms n h.is
 
   dot_of : (t : Mark) (given : Option Arguments) (block : Option Block) (ns ms ks : List X) → IsNamed m t ns → Maybe (AreGiven A.IsValue A.IsOption) given ms
-      → Maybe A.IsWhole block ks → A.IsCall (dot_value t.bytes given block) (ns ++ (ms ++ ks))
+      → Maybe A.IsWhole block ks → A.IsCall (dot_call t.bytes given block) (ns ++ (ms ++ ks))
   dot_of t None block ns ms ks n h b = A.call_is t false no_arguments block ns ms ks n (no_given A.IsValue A.IsOption ms h.is) b
   dot_of t (Some given) block ns ms ks n h b = A.call_is t true given block ns ms ks n h.is b
 
@@ -222,7 +222,7 @@ module _ {X : Type 0} {m : Measure X} (A : Facts m) (o : Opened) (os : Told A o)
   unfolding named
   named_tells =
       map_tells (then_tells (head_tells terminals.Name) (maybe_tells os.call))
-      (λ v ns h. subst (A.IsExpr (named_value v.0.bytes v.1)) (sym h.whole) (named_of A v.0 v.1 h.prefix h.rest h.first h.second))
+      (λ v ns h. subst (A.IsExpr (named_tree v.0.bytes v.1)) (sym h.whole) (named_of A v.0 v.1 h.prefix h.rest h.first h.second))
 
   primary_tells : Tells m (primary o) A.IsExpr
   unfolding primary
@@ -233,7 +233,7 @@ module _ {X : Type 0} {m : Measure X} (A : Facts m) (o : Opened) (os : Told A o)
   dot_tells =
       map_tells (then_tells (terminal_tells terminals.Dot refl) (then_tells (head_tells terminals.Name) (then_tells (maybe_tells os.call) (maybe_tells os.braces))))
       (λ v ns h. let name = later h in let rest = name.second in
-      subst (A.IsCall (dot_value v.1.0.bytes v.1.1.0 v.1.1.1)) (sym (name.whole ∙ ap (λ z. name.prefix ++ z) rest.whole))
+      subst (A.IsCall (dot_call v.1.0.bytes v.1.1.0 v.1.1.1)) (sym (name.whole ∙ ap (λ z. name.prefix ++ z) rest.whole))
       (dot_of A v.1.0 v.1.1.0 v.1.1.1 name.prefix rest.prefix rest.rest name.first rest.first rest.second))
 
   part_tells : (s : Left) → Tells m (part o s) (IsPart A)

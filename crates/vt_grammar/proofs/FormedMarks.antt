@@ -40,7 +40,7 @@ literal_good terminals.Label bytes e h = absurd (true≢false (sym e))
 literal_good _ bytes e h = h
 
 -- a terminal whose bytes say nothing
-abbrev is_plain : Terminal → Bool
+abbrev pub is_plain : Terminal → Bool
 is_plain terminals.Name = false
 is_plain terminals.Label = false
 is_plain terminals.Whole = false
@@ -58,7 +58,7 @@ plain_good terminals.Text e bytes = absurd (true≢false (sym e))
 plain_good terminals.Symbol e bytes = absurd (true≢false (sym e))
 plain_good _ e bytes = tt
 
-spaced_plain : (w : Terminal) (gap tight : Bool) → is_plain w ≡ true → is_plain (spaced gap tight w) ≡ true
+pub spaced_plain : (w : Terminal) (gap tight : Bool) → is_plain w ≡ true → is_plain (spaced gap tight w) ≡ true
 spaced_plain terminals.CallOpen true true e = refl
 spaced_plain terminals.CallOpen true false e = refl
 spaced_plain terminals.CallOpen false true e = refl
@@ -73,7 +73,7 @@ plain_choice w beside true true rest f h later = f
 plain_choice w beside true false rest f h later = later h
 plain_choice w beside false b rest f h later = absurd (true≢false (sym h))
 
-plain_in : (rows : List Spelling) → list_all (λ row. is_plain row.1) rows ≡ true → (bytes : List ℕ) → is_plain (terminal_in rows bytes) ≡ true
+pub plain_in : (rows : List Spelling) → list_all (λ row. is_plain row.1) rows ≡ true → (bytes : List ℕ) → is_plain (terminal_in rows bytes) ≡ true
 plain_in [] e bytes = refl
 plain_in ((spelling, w) ∷ rows) e bytes =
     plain_choice w (terminal_in rows bytes) (is_plain w) (bytes_eq spelling bytes) (list_all (λ row. is_plain row.1) rows) refl e (λ h. plain_in rows h bytes)

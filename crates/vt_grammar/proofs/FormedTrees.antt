@@ -26,8 +26,9 @@ use Rattle.vt_tree.specs.Forms.{IsLiteral}
 use Rattle.vt_tree.specs.Parts.{Part as TreePart, called, opened, Context, Walk, children, each, if_there, whole_block, inside, after_dot, at_line, node_parts, in_simple, in_form, in_call, in_expr, in_link, in_arm, in_stmt}
 use Rattle.vt_tree.specs.WellFormed.{is_op_of, IsLinkCount, GoodNode, GoodSimple, GoodForm, GoodCall, GoodExpr, GoodLink, GoodArm, GoodBlock, GoodStmt, IsFormedNode, IsFormedSimple, IsFormedStmtForm, IsFormedCall, IsFormedExpr, IsFormedLink, IsFormedArm, IsFormedBlock, IsFormedStmt}
 use Rattle.vt_tree.proofs.PartsLemmas.{in_node-is, in_node-out, in_simple-is, in_form-is, in_call-is, in_call-out, in_expr-is, in_expr-out, in_link-is, in_arm-is, in_block-is, in_stmt-is}
+use Rattle.vt_tree.specs.Layers.{OfTrees}
 use Rattle.vt_grammar.specs.declared.parts.Arguments.{Arguments}
-use Rattle.vt_grammar.specs.Trees.{Layer, plain, wrapped, call_of, call_with, no_arguments, is_get, is_bare_get, node_takes_block, takes_block, node_with_block, with_block, form_tree, stmt_tree, arm_tree}
+use Rattle.vt_grammar.specs.Trees.{plain, wrapped, call_of, call_with, no_arguments, is_get, is_bare_get, node_takes_block, takes_block, node_with_block, with_block, form_tree, stmt_tree, arm_tree}
 use Rattle.vt_grammar.proofs.Facts.{AreGiven, IsGuard}
 use Rattle.vt_grammar.proofs.Tells.{InOrder, Maybe}
 
@@ -85,90 +86,90 @@ unpaired (y ∷ ys) = (y.1, unpaired ys)
 abbrev HeldNode : Type 0
 HeldNode = Node-F (With IsFormedNode) (With IsFormedSimple) (With IsFormedStmtForm) (With IsFormedCall) (With IsFormedExpr) (With IsFormedLink) (With IsFormedArm) (With IsFormedBlock) (With IsFormedStmt)
 
-abbrev bare_node : HeldNode → Node-F Node Simple StmtForm Call Expr Link Arm Block Stmt
+abbrev bare_node : HeldNode → OfTrees Node-F
 bare_node = map-Node (With IsFormedNode) (With IsFormedSimple) (With IsFormedStmtForm) (With IsFormedCall) (With IsFormedExpr) (With IsFormedLink) (With IsFormedArm) (With IsFormedBlock) (With IsFormedStmt) Node Simple StmtForm Call Expr Link Arm Block Stmt (λ z. z.0) (λ z. z.0) (λ z. z.0) (λ z. z.0) (λ z. z.0) (λ z. z.0) (λ z. z.0) (λ z. z.0) (λ z. z.0)
 
-made_node : (x : Node) (layer : Node-F Node Simple StmtForm Call Expr Link Arm Block Stmt) (held : HeldNode) → x ≡ roll-Node layer → bare_node held ≡ layer → GoodNode layer → IsFormedNode x
+made_node : (x : Node) (layer : OfTrees Node-F) (held : HeldNode) → x ≡ roll-Node layer → bare_node held ≡ layer → GoodNode layer → IsFormedNode x
 unfolding IsFormedNode IsFormedSimple IsFormedStmtForm IsFormedCall IsFormedExpr IsFormedLink IsFormedArm IsFormedBlock IsFormedStmt
 made_node x layer held e m g = subst (every-Node GoodNode GoodSimple GoodForm GoodCall GoodExpr GoodLink GoodArm GoodBlock GoodStmt) (sym e) (every_made-Node GoodNode GoodSimple GoodForm GoodCall GoodExpr GoodLink GoodArm GoodBlock GoodStmt layer held m g)
 
 abbrev HeldSimple : Type 0
 HeldSimple = Simple-F (With IsFormedNode) (With IsFormedSimple) (With IsFormedStmtForm) (With IsFormedCall) (With IsFormedExpr) (With IsFormedLink) (With IsFormedArm) (With IsFormedBlock) (With IsFormedStmt)
 
-abbrev bare_simple : HeldSimple → Simple-F Node Simple StmtForm Call Expr Link Arm Block Stmt
+abbrev bare_simple : HeldSimple → OfTrees Simple-F
 bare_simple = map-Simple (With IsFormedNode) (With IsFormedSimple) (With IsFormedStmtForm) (With IsFormedCall) (With IsFormedExpr) (With IsFormedLink) (With IsFormedArm) (With IsFormedBlock) (With IsFormedStmt) Node Simple StmtForm Call Expr Link Arm Block Stmt (λ z. z.0) (λ z. z.0) (λ z. z.0) (λ z. z.0) (λ z. z.0) (λ z. z.0) (λ z. z.0) (λ z. z.0) (λ z. z.0)
 
-made_simple : (x : Simple) (layer : Simple-F Node Simple StmtForm Call Expr Link Arm Block Stmt) (held : HeldSimple) → x ≡ roll-Simple layer → bare_simple held ≡ layer → GoodSimple layer → IsFormedSimple x
+made_simple : (x : Simple) (layer : OfTrees Simple-F) (held : HeldSimple) → x ≡ roll-Simple layer → bare_simple held ≡ layer → GoodSimple layer → IsFormedSimple x
 unfolding IsFormedNode IsFormedSimple IsFormedStmtForm IsFormedCall IsFormedExpr IsFormedLink IsFormedArm IsFormedBlock IsFormedStmt
 made_simple x layer held e m g = subst (every-Simple GoodNode GoodSimple GoodForm GoodCall GoodExpr GoodLink GoodArm GoodBlock GoodStmt) (sym e) (every_made-Simple GoodNode GoodSimple GoodForm GoodCall GoodExpr GoodLink GoodArm GoodBlock GoodStmt layer held m g)
 
 abbrev HeldStmtForm : Type 0
 HeldStmtForm = StmtForm-F (With IsFormedNode) (With IsFormedSimple) (With IsFormedStmtForm) (With IsFormedCall) (With IsFormedExpr) (With IsFormedLink) (With IsFormedArm) (With IsFormedBlock) (With IsFormedStmt)
 
-abbrev bare_form : HeldStmtForm → StmtForm-F Node Simple StmtForm Call Expr Link Arm Block Stmt
+abbrev bare_form : HeldStmtForm → OfTrees StmtForm-F
 bare_form = map-StmtForm (With IsFormedNode) (With IsFormedSimple) (With IsFormedStmtForm) (With IsFormedCall) (With IsFormedExpr) (With IsFormedLink) (With IsFormedArm) (With IsFormedBlock) (With IsFormedStmt) Node Simple StmtForm Call Expr Link Arm Block Stmt (λ z. z.0) (λ z. z.0) (λ z. z.0) (λ z. z.0) (λ z. z.0) (λ z. z.0) (λ z. z.0) (λ z. z.0) (λ z. z.0)
 
-made_form : (x : StmtForm) (layer : StmtForm-F Node Simple StmtForm Call Expr Link Arm Block Stmt) (held : HeldStmtForm) → x ≡ roll-StmtForm layer → bare_form held ≡ layer → GoodForm layer → IsFormedStmtForm x
+made_form : (x : StmtForm) (layer : OfTrees StmtForm-F) (held : HeldStmtForm) → x ≡ roll-StmtForm layer → bare_form held ≡ layer → GoodForm layer → IsFormedStmtForm x
 unfolding IsFormedNode IsFormedSimple IsFormedStmtForm IsFormedCall IsFormedExpr IsFormedLink IsFormedArm IsFormedBlock IsFormedStmt
 made_form x layer held e m g = subst (every-StmtForm GoodNode GoodSimple GoodForm GoodCall GoodExpr GoodLink GoodArm GoodBlock GoodStmt) (sym e) (every_made-StmtForm GoodNode GoodSimple GoodForm GoodCall GoodExpr GoodLink GoodArm GoodBlock GoodStmt layer held m g)
 
 abbrev HeldCall : Type 0
 HeldCall = Call-F (With IsFormedNode) (With IsFormedSimple) (With IsFormedStmtForm) (With IsFormedCall) (With IsFormedExpr) (With IsFormedLink) (With IsFormedArm) (With IsFormedBlock) (With IsFormedStmt)
 
-abbrev bare_call : HeldCall → Call-F Node Simple StmtForm Call Expr Link Arm Block Stmt
+abbrev bare_call : HeldCall → OfTrees Call-F
 bare_call = map-Call (With IsFormedNode) (With IsFormedSimple) (With IsFormedStmtForm) (With IsFormedCall) (With IsFormedExpr) (With IsFormedLink) (With IsFormedArm) (With IsFormedBlock) (With IsFormedStmt) Node Simple StmtForm Call Expr Link Arm Block Stmt (λ z. z.0) (λ z. z.0) (λ z. z.0) (λ z. z.0) (λ z. z.0) (λ z. z.0) (λ z. z.0) (λ z. z.0) (λ z. z.0)
 
-made_call : (x : Call) (layer : Call-F Node Simple StmtForm Call Expr Link Arm Block Stmt) (held : HeldCall) → x ≡ roll-Call layer → bare_call held ≡ layer → GoodCall layer → IsFormedCall x
+made_call : (x : Call) (layer : OfTrees Call-F) (held : HeldCall) → x ≡ roll-Call layer → bare_call held ≡ layer → GoodCall layer → IsFormedCall x
 unfolding IsFormedNode IsFormedSimple IsFormedStmtForm IsFormedCall IsFormedExpr IsFormedLink IsFormedArm IsFormedBlock IsFormedStmt
 made_call x layer held e m g = subst (every-Call GoodNode GoodSimple GoodForm GoodCall GoodExpr GoodLink GoodArm GoodBlock GoodStmt) (sym e) (every_made-Call GoodNode GoodSimple GoodForm GoodCall GoodExpr GoodLink GoodArm GoodBlock GoodStmt layer held m g)
 
 abbrev HeldExpr : Type 0
 HeldExpr = Expr-F (With IsFormedNode) (With IsFormedSimple) (With IsFormedStmtForm) (With IsFormedCall) (With IsFormedExpr) (With IsFormedLink) (With IsFormedArm) (With IsFormedBlock) (With IsFormedStmt)
 
-abbrev bare_expr : HeldExpr → Expr-F Node Simple StmtForm Call Expr Link Arm Block Stmt
+abbrev bare_expr : HeldExpr → OfTrees Expr-F
 bare_expr = map-Expr (With IsFormedNode) (With IsFormedSimple) (With IsFormedStmtForm) (With IsFormedCall) (With IsFormedExpr) (With IsFormedLink) (With IsFormedArm) (With IsFormedBlock) (With IsFormedStmt) Node Simple StmtForm Call Expr Link Arm Block Stmt (λ z. z.0) (λ z. z.0) (λ z. z.0) (λ z. z.0) (λ z. z.0) (λ z. z.0) (λ z. z.0) (λ z. z.0) (λ z. z.0)
 
-made_expr : (x : Expr) (layer : Expr-F Node Simple StmtForm Call Expr Link Arm Block Stmt) (held : HeldExpr) → x ≡ roll-Expr layer → bare_expr held ≡ layer → GoodExpr layer → IsFormedExpr x
+made_expr : (x : Expr) (layer : OfTrees Expr-F) (held : HeldExpr) → x ≡ roll-Expr layer → bare_expr held ≡ layer → GoodExpr layer → IsFormedExpr x
 unfolding IsFormedNode IsFormedSimple IsFormedStmtForm IsFormedCall IsFormedExpr IsFormedLink IsFormedArm IsFormedBlock IsFormedStmt
 made_expr x layer held e m g = subst (every-Expr GoodNode GoodSimple GoodForm GoodCall GoodExpr GoodLink GoodArm GoodBlock GoodStmt) (sym e) (every_made-Expr GoodNode GoodSimple GoodForm GoodCall GoodExpr GoodLink GoodArm GoodBlock GoodStmt layer held m g)
 
 abbrev HeldLink : Type 0
 HeldLink = Link-F (With IsFormedNode) (With IsFormedSimple) (With IsFormedStmtForm) (With IsFormedCall) (With IsFormedExpr) (With IsFormedLink) (With IsFormedArm) (With IsFormedBlock) (With IsFormedStmt)
 
-abbrev bare_link : HeldLink → Link-F Node Simple StmtForm Call Expr Link Arm Block Stmt
+abbrev bare_link : HeldLink → OfTrees Link-F
 bare_link = map-Link (With IsFormedNode) (With IsFormedSimple) (With IsFormedStmtForm) (With IsFormedCall) (With IsFormedExpr) (With IsFormedLink) (With IsFormedArm) (With IsFormedBlock) (With IsFormedStmt) Node Simple StmtForm Call Expr Link Arm Block Stmt (λ z. z.0) (λ z. z.0) (λ z. z.0) (λ z. z.0) (λ z. z.0) (λ z. z.0) (λ z. z.0) (λ z. z.0) (λ z. z.0)
 
-made_link : (x : Link) (layer : Link-F Node Simple StmtForm Call Expr Link Arm Block Stmt) (held : HeldLink) → x ≡ roll-Link layer → bare_link held ≡ layer → GoodLink layer → IsFormedLink x
+made_link : (x : Link) (layer : OfTrees Link-F) (held : HeldLink) → x ≡ roll-Link layer → bare_link held ≡ layer → GoodLink layer → IsFormedLink x
 unfolding IsFormedNode IsFormedSimple IsFormedStmtForm IsFormedCall IsFormedExpr IsFormedLink IsFormedArm IsFormedBlock IsFormedStmt
 made_link x layer held e m g = subst (every-Link GoodNode GoodSimple GoodForm GoodCall GoodExpr GoodLink GoodArm GoodBlock GoodStmt) (sym e) (every_made-Link GoodNode GoodSimple GoodForm GoodCall GoodExpr GoodLink GoodArm GoodBlock GoodStmt layer held m g)
 
 abbrev HeldArm : Type 0
 HeldArm = Arm-F (With IsFormedNode) (With IsFormedSimple) (With IsFormedStmtForm) (With IsFormedCall) (With IsFormedExpr) (With IsFormedLink) (With IsFormedArm) (With IsFormedBlock) (With IsFormedStmt)
 
-abbrev bare_arm : HeldArm → Arm-F Node Simple StmtForm Call Expr Link Arm Block Stmt
+abbrev bare_arm : HeldArm → OfTrees Arm-F
 bare_arm = map-Arm (With IsFormedNode) (With IsFormedSimple) (With IsFormedStmtForm) (With IsFormedCall) (With IsFormedExpr) (With IsFormedLink) (With IsFormedArm) (With IsFormedBlock) (With IsFormedStmt) Node Simple StmtForm Call Expr Link Arm Block Stmt (λ z. z.0) (λ z. z.0) (λ z. z.0) (λ z. z.0) (λ z. z.0) (λ z. z.0) (λ z. z.0) (λ z. z.0) (λ z. z.0)
 
-made_arm : (x : Arm) (layer : Arm-F Node Simple StmtForm Call Expr Link Arm Block Stmt) (held : HeldArm) → x ≡ roll-Arm layer → bare_arm held ≡ layer → GoodArm layer → IsFormedArm x
+made_arm : (x : Arm) (layer : OfTrees Arm-F) (held : HeldArm) → x ≡ roll-Arm layer → bare_arm held ≡ layer → GoodArm layer → IsFormedArm x
 unfolding IsFormedNode IsFormedSimple IsFormedStmtForm IsFormedCall IsFormedExpr IsFormedLink IsFormedArm IsFormedBlock IsFormedStmt
 made_arm x layer held e m g = subst (every-Arm GoodNode GoodSimple GoodForm GoodCall GoodExpr GoodLink GoodArm GoodBlock GoodStmt) (sym e) (every_made-Arm GoodNode GoodSimple GoodForm GoodCall GoodExpr GoodLink GoodArm GoodBlock GoodStmt layer held m g)
 
 abbrev HeldBlock : Type 0
 HeldBlock = Block-F (With IsFormedNode) (With IsFormedSimple) (With IsFormedStmtForm) (With IsFormedCall) (With IsFormedExpr) (With IsFormedLink) (With IsFormedArm) (With IsFormedBlock) (With IsFormedStmt)
 
-abbrev bare_block : HeldBlock → Block-F Node Simple StmtForm Call Expr Link Arm Block Stmt
+abbrev bare_block : HeldBlock → OfTrees Block-F
 bare_block = map-Block (With IsFormedNode) (With IsFormedSimple) (With IsFormedStmtForm) (With IsFormedCall) (With IsFormedExpr) (With IsFormedLink) (With IsFormedArm) (With IsFormedBlock) (With IsFormedStmt) Node Simple StmtForm Call Expr Link Arm Block Stmt (λ z. z.0) (λ z. z.0) (λ z. z.0) (λ z. z.0) (λ z. z.0) (λ z. z.0) (λ z. z.0) (λ z. z.0) (λ z. z.0)
 
-made_block : (x : Block) (layer : Block-F Node Simple StmtForm Call Expr Link Arm Block Stmt) (held : HeldBlock) → x ≡ roll-Block layer → bare_block held ≡ layer → GoodBlock layer → IsFormedBlock x
+made_block : (x : Block) (layer : OfTrees Block-F) (held : HeldBlock) → x ≡ roll-Block layer → bare_block held ≡ layer → GoodBlock layer → IsFormedBlock x
 unfolding IsFormedNode IsFormedSimple IsFormedStmtForm IsFormedCall IsFormedExpr IsFormedLink IsFormedArm IsFormedBlock IsFormedStmt
 made_block x layer held e m g = subst (every-Block GoodNode GoodSimple GoodForm GoodCall GoodExpr GoodLink GoodArm GoodBlock GoodStmt) (sym e) (every_made-Block GoodNode GoodSimple GoodForm GoodCall GoodExpr GoodLink GoodArm GoodBlock GoodStmt layer held m g)
 
 abbrev HeldStmt : Type 0
 HeldStmt = Stmt-F (With IsFormedNode) (With IsFormedSimple) (With IsFormedStmtForm) (With IsFormedCall) (With IsFormedExpr) (With IsFormedLink) (With IsFormedArm) (With IsFormedBlock) (With IsFormedStmt)
 
-abbrev bare_stmt : HeldStmt → Stmt-F Node Simple StmtForm Call Expr Link Arm Block Stmt
+abbrev bare_stmt : HeldStmt → OfTrees Stmt-F
 bare_stmt = map-Stmt (With IsFormedNode) (With IsFormedSimple) (With IsFormedStmtForm) (With IsFormedCall) (With IsFormedExpr) (With IsFormedLink) (With IsFormedArm) (With IsFormedBlock) (With IsFormedStmt) Node Simple StmtForm Call Expr Link Arm Block Stmt (λ z. z.0) (λ z. z.0) (λ z. z.0) (λ z. z.0) (λ z. z.0) (λ z. z.0) (λ z. z.0) (λ z. z.0) (λ z. z.0)
 
-made_stmt : (x : Stmt) (layer : Stmt-F Node Simple StmtForm Call Expr Link Arm Block Stmt) (held : HeldStmt) → x ≡ roll-Stmt layer → bare_stmt held ≡ layer → GoodStmt layer → IsFormedStmt x
+made_stmt : (x : Stmt) (layer : OfTrees Stmt-F) (held : HeldStmt) → x ≡ roll-Stmt layer → bare_stmt held ≡ layer → GoodStmt layer → IsFormedStmt x
 unfolding IsFormedNode IsFormedSimple IsFormedStmtForm IsFormedCall IsFormedExpr IsFormedLink IsFormedArm IsFormedBlock IsFormedStmt
 made_stmt x layer held e m g = subst (every-Stmt GoodNode GoodSimple GoodForm GoodCall GoodExpr GoodLink GoodArm GoodBlock GoodStmt) (sym e) (every_made-Stmt GoodNode GoodSimple GoodForm GoodCall GoodExpr GoodLink GoodArm GoodBlock GoodStmt layer held m g)
 
@@ -194,7 +195,7 @@ held_expr x h = every_held-Expr GoodNode GoodSimple GoodForm GoodCall GoodExpr G
 
 -- Expressions
 
-abbrev HasNoBlock : Layer → Type 0
+abbrev HasNoBlock : OfTrees Node-F → Type 0
 HasNoBlock (Node-F.Call call) = (out-Call call).block ≡ None
 HasNoBlock _ = Unit {0}
 
@@ -213,17 +214,17 @@ as_value e ns h = record { formed = h.formed; numbered = h.numbered }
 plain_formed : (n : Node) → IsFormedNode n → IsFormedExpr (plain n)
 plain_formed n h = made_expr (plain n) (record { wraps = 0; node = n }) (record { wraps = 0; node = (n, h) }) refl refl tt
 
-plain_numbers : (n : Node) (layer : Layer) (ns : List ℕ) → n ≡ roll-Node layer → ((p : Context) → numbers (node_parts children layer p) ≡ ns)
+plain_numbers : (n : Node) (layer : OfTrees Node-F) (ns : List ℕ) → n ≡ roll-Node layer → ((p : Context) → numbers (node_parts children layer p) ≡ ns)
     → (p : Context) → numbers (in_expr (plain n) p) ≡ ns
 plain_numbers n layer ns e h p =
     ap (λ z. numbers z) (in_expr-is (plain n) (record { wraps = 0; node = n }) p refl ∙ in_node-is n layer p e) ∙ h p
 
-pub plain_layer : (n : Node) (layer : Layer) → n ≡ roll-Node layer → out-Node (out-Expr (plain n)).node ≡ layer
+pub plain_layer : (n : Node) (layer : OfTrees Node-F) → n ≡ roll-Node layer → out-Node (out-Expr (plain n)).node ≡ layer
 plain_layer n layer e =
-    ap (λ (x : Expr-F Node Simple StmtForm Call Expr Link Arm Block Stmt). out-Node x.node) (out-roll-Expr (record { wraps = 0; node = n }))
+    ap (λ (x : OfTrees Expr-F). out-Node x.node) (out-roll-Expr (record { wraps = 0; node = n }))
     ∙ ap out-Node e ∙ out-roll-Node layer
 
-plain_is : (n : Node) (layer : Layer) (ns : List ℕ) → n ≡ roll-Node layer → IsFormedNode n → ((p : Context) → numbers (node_parts children layer p) ≡ ns)
+plain_is : (n : Node) (layer : OfTrees Node-F) (ns : List ℕ) → n ≡ roll-Node layer → IsFormedNode n → ((p : Context) → numbers (node_parts children layer p) ≡ ns)
     → HasNoBlock layer → IsExpr (plain n) ns
 plain_is n layer ns e f h b = record {
   formed = plain_formed n f;
@@ -283,7 +284,7 @@ pub record IsLink (kind : ChainKind) (link : Link) (ns : List ℕ) : Type 0 wher
 pub link_is : (kind : ChainKind) (op : ChainOp) (part : Expr) (ns : List ℕ) → IsTrue (is_op_of kind op) → IsValue part ns → IsLink kind (roll-Link (record { op = op; part = part })) ns
 link_is kind op part ns o h = record {
   formed = made_link (roll-Link (record { op = op; part = part })) (record { op = op; part = part }) (record { op = op; part = (part, h.formed) }) refl refl tt;
-  op = subst (λ (x : Link-F Node Simple StmtForm Call Expr Link Arm Block Stmt). IsTrue (is_op_of kind x.op)) (sym (out-roll-Link (record { op = op; part = part }))) o;
+  op = subst (λ (x : OfTrees Link-F). IsTrue (is_op_of kind x.op)) (sym (out-roll-Link (record { op = op; part = part }))) o;
   numbered = λ p. ap (λ z. numbers z) (in_link-is (roll-Link (record { op = op; part = part })) (record { op = op; part = part }) p refl) ∙ h.numbered p;
 }
 
@@ -318,12 +319,12 @@ pub wrapped_is : (e : Expr) (ns : List ℕ) → IsExpr e ns → IsExpr (wrapped 
 wrapped_is e ns h =
     let node = (out-Expr e).node in
     let held = held_expr e h.formed in
-    let same : held.0.node.0 ≡ node = ap (λ (x : Expr-F Node Simple StmtForm Call Expr Link Arm Block Stmt). x.node) held.1 in
-    let layer : Expr-F Node Simple StmtForm Call Expr Link Arm Block Stmt = record { wraps = suc (out-Expr e).wraps; node = node } in
+    let same : held.0.node.0 ≡ node = ap (λ (x : OfTrees Expr-F). x.node) held.1 in
+    let layer : OfTrees Expr-F = record { wraps = suc (out-Expr e).wraps; node = node } in
     record {
       formed = made_expr (wrapped e) layer (record { wraps = suc (out-Expr e).wraps; node = (node, subst IsFormedNode same held.0.node.1) }) refl refl tt;
       numbered = λ p. ap (λ z. numbers z) (in_expr-is (wrapped e) layer p refl ∙ sym (in_expr-out e p)) ∙ h.numbered p;
-      no_block = subst (λ (x : Expr-F Node Simple StmtForm Call Expr Link Arm Block Stmt). HasNoBlock (out-Node x.node)) (sym (out-roll-Expr layer)) h.no_block;
+      no_block = subst (λ (x : OfTrees Expr-F). HasNoBlock (out-Node x.node)) (sym (out-roll-Expr layer)) h.no_block;
     }
 
 -- Calls
@@ -424,7 +425,7 @@ call_node_is name w given ns n h =
     let is : IsCall call (ns ++ []) = call_is name w given None ns [] n h (record { is = refl }) in
     plain_is (nodes.Call call) (Node-F.Call call) ns (sym (nodes.rolls-Call call)) (call_node_formed call is.formed)
     (λ p. is.numbered p ∙ append-nil ns)
-    (ap (λ (x : Call-F Node Simple StmtForm Call Expr Link Arm Block Stmt). x.block) (out-roll-Call (record { name = name; wrapped = w; args = given.args; options = given.options; block = None })))
+    (ap (λ (x : OfTrees Call-F). x.block) (out-roll-Call (record { name = name; wrapped = w; args = given.args; options = given.options; block = None })))
 
 -- A block after a value
 
@@ -435,13 +436,13 @@ arguments_in call = record { args = (out-Call call).args; options = (out-Call ca
 args_formed : (call : Call) → IsFormedCall call → AllByRecursion IsFormedExpr (out-Call call).args
 args_formed call h =
     let held = held_call call h in
-    subst (AllByRecursion IsFormedExpr) (ap (λ (x : Call-F Node Simple StmtForm Call Expr Link Arm Block Stmt). x.args) held.1) (unpaired held.0.args)
+    subst (AllByRecursion IsFormedExpr) (ap (λ (x : OfTrees Call-F). x.args) held.1) (unpaired held.0.args)
 
 options_formed : (call : Call) → IsFormedCall call → AllByRecursion IsFormedOption (out-Call call).options
 options_formed call h =
     let held = held_call call h in
     let values : AllByRecursion (λ (o : List ℕ × Expr). IsFormedExpr o.1) (out-Call call).options =
-    subst (AllByRecursion (λ (o : List ℕ × Expr). IsFormedExpr o.1)) (ap (λ (x : Call-F Node Simple StmtForm Call Expr Link Arm Block Stmt). x.options) held.1) (values_of held.0.options) in
+    subst (AllByRecursion (λ (o : List ℕ × Expr). IsFormedExpr o.1)) (ap (λ (x : OfTrees Call-F). x.options) held.1) (values_of held.0.options) in
     together (out-Call call).options (recursion_from_All (λ (o : List ℕ × Expr). IsTrue (is_label_name o.0)) (out-Call call).options (here_call call h).labels) values
   where
     values_of : (ys : List (List ℕ × With IsFormedExpr)) → AllByRecursion (λ (o : List ℕ × Expr). IsFormedExpr o.1) (map (λ o. (o.0, o.1.0)) ys)
@@ -499,7 +500,7 @@ pub no_arguments_are : IsArguments no_arguments []
 no_arguments_are = record { args = tt; options = tt; numbered = λ p. refl }
 
 -- the block goes into the node, after what stands there
-node_with : (node : Node) (layer : Layer) (b : Block) (ns ms : List ℕ) → out-Node node ≡ layer → node_takes_block layer ≡ true → HasNoBlock layer → IsFormedNode node
+node_with : (node : Node) (layer : OfTrees Node-F) (b : Block) (ns ms : List ℕ) → out-Node node ≡ layer → node_takes_block layer ≡ true → HasNoBlock layer → IsFormedNode node
     → ((p : Context) → numbers (node_parts children layer p) ≡ ns) → IsWhole b ms → IsValue (plain (node_with_block node layer b)) (ns ++ ms)
 node_with node (Node-F.Name name) b ns ms e t n f h g =
     let call = call_of name false no_arguments (Some b) in
@@ -545,7 +546,7 @@ node_with node (Node-F.Chain kind first rest) b ns ms e t n f h g = absurd (true
 node_of_formed : (e : Expr) → IsFormedExpr e → IsFormedNode (out-Expr e).node
 node_of_formed e h =
     let held = held_expr e h in
-    let same : held.0.node.0 ≡ (out-Expr e).node = ap (λ (x : Expr-F Node Simple StmtForm Call Expr Link Arm Block Stmt). x.node) held.1 in
+    let same : held.0.node.0 ≡ (out-Expr e).node = ap (λ (x : OfTrees Expr-F). x.node) held.1 in
     subst IsFormedNode same held.0.node.1
 
 node_of_numbers : (e : Expr) (ns : List ℕ) → ((p : Context) → numbers (in_expr e p) ≡ ns) → (p : Context) → numbers (node_parts children (out-Node (out-Expr e).node) p) ≡ ns
@@ -563,7 +564,7 @@ with_block_is e b ns ms h t g =
     (node_of_formed e h.formed) (node_of_numbers e ns h.numbered) g
 
 -- a bare `get` has no block
-get_numbers : (layer : Layer) → is_get layer ≡ true → (p : Context) → numbers (node_parts children layer p) ≡ []
+get_numbers : (layer : OfTrees Node-F) → is_get layer ≡ true → (p : Context) → numbers (node_parts children layer p) ≡ []
 get_numbers (Node-F.Name name) e p = refl
 get_numbers (Node-F.Literal value) e p = absurd (true≢false (sym e))
 get_numbers (Node-F.Call call) e p = absurd (true≢false (sym e))
@@ -614,7 +615,7 @@ assign_is name op e ns n h = record {
 pub arm_is : (unless : Bool) (cond : Expr) (stmts : List Stmt) (ns ms : List ℕ) → IsValue cond ns → AreStmts stmts ms → IsArm (arm_tree unless cond stmts) (ns ++ ms)
 arm_is unless cond stmts ns ms h g =
     let ys = paired stmts g.formed in
-    let layer : Arm-F Node Simple StmtForm Call Expr Link Arm Block Stmt = record { unless = unless; cond = cond; stmts = stmts } in
+    let layer : OfTrees Arm-F = record { unless = unless; cond = cond; stmts = stmts } in
     record {
       formed = made_arm (arm_tree unless cond stmts) layer (record { unless = unless; cond = (cond, h.formed); stmts = ys.pairs }) refl
           (λ i. record { unless = unless; cond = cond; stmts = ys.are i }) tt;
@@ -667,11 +668,11 @@ pub block_is : (number : ℕ) (params : List (List ℕ)) (stmts : List Stmt) (ns
     → IsWhole (roll-Block (record { number = number; params = params; stmts = stmts })) (number ∷ ns)
 block_is number params stmts ns n h =
     let ys = paired stmts h.formed in
-    let layer : Block-F Node Simple StmtForm Call Expr Link Arm Block Stmt = record { number = number; params = params; stmts = stmts } in
+    let layer : OfTrees Block-F = record { number = number; params = params; stmts = stmts } in
     record {
       formed = made_block (roll-Block layer) layer (record { number = number; params = params; stmts = ys.pairs }) refl
           (λ i. record { number = number; params = params; stmts = ys.are i }) n;
       numbered = λ p.
           ap (λ z. (out-Block (roll-Block layer)).number ∷ z) (ap (λ z. numbers z) (in_block-is (roll-Block layer) layer p refl) ∙ h.numbered p)
-          ∙ ap (λ (x : Block-F Node Simple StmtForm Call Expr Link Arm Block Stmt). x.number ∷ ns) (out-roll-Block layer);
+          ∙ ap (λ (x : OfTrees Block-F). x.number ∷ ns) (out-roll-Block layer);
     }

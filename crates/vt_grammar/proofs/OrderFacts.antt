@@ -21,13 +21,14 @@ use Rattle.vt_tree.specs.declared.statement.StmtForm.TheVariants as forms
 use Rattle.vt_tree.specs.Parts.{called, opened, Context, Walk, children, each, site, if_there, whole_block, inside, after_dot, at_line, node_parts, in_simple, in_form, in_call, in_expr, in_link, in_arm, in_block, in_stmt}
 use Rattle.vt_tree.specs.WellFormed.{is_op_of, IsLinkCount}
 use Rattle.vt_tree.proofs.PartsLemmas.{in_node-is, in_node-out, in_simple-is, in_form-is, in_call-out, in_expr-is, in_expr-out, in_link-is, in_arm-is, in_block-is, in_stmt-is}
+use Rattle.vt_tree.specs.Layers.{OfTrees}
 use Rattle.vt_grammar.specs.declared.parts.Arguments.{Arguments}
 use Rattle.vt_grammar.specs.declared.terminals.Terminal.{Terminal}
 use Rattle.vt_grammar.specs.declared.terminals.Terminal.TheVariants as terminals
 use Rattle.vt_grammar.specs.Marks.{Mark, begins_block}
 use Rattle.vt_grammar.specs.Order.{StandsAt, Found, AreAmong}
 use Rattle.vt_grammar.specs.Values.{literal_of, label_name}
-use Rattle.vt_grammar.specs.Trees.{Layer, plain, wrapped, call_of, call_with, no_arguments, is_get, is_bare_get, node_takes_block, takes_block, node_with_block, with_block, form_tree, stmt_tree, arm_tree}
+use Rattle.vt_grammar.specs.Trees.{plain, wrapped, call_of, call_with, no_arguments, is_get, is_bare_get, node_takes_block, takes_block, node_with_block, with_block, form_tree, stmt_tree, arm_tree}
 use Rattle.vt_grammar.specs.Grammar.{is_literal, names_of}
 use Rattle.vt_grammar.proofs.Among.{later, join, front, parted}
 use Rattle.vt_grammar.proofs.Facts.{Facts, IsNamed, IsBegun, AreGiven, IsGuard, given_alone, no_given}
@@ -71,7 +72,7 @@ each_stand W (x ∷ xs) ms h p =
 -- Expressions
 
 -- where the name of a bare name stands: with a block, or as `get` with an index, it becomes a call
-abbrev pub NameStands : Layer → List Mark → Type 0
+abbrev pub NameStands : OfTrees Node-F → List Mark → Type 0
 NameStands (Node-F.Name name) ms = HasName name ms
 NameStands _ ms = Unit {0}
 
@@ -98,12 +99,12 @@ IsWhole = Stands (whole_block children)
 pub as_value : (e : Expr) (ms : List Mark) → IsExpr e ms → IsValue e ms
 as_value e ms h = record { stand = h.stand }
 
-layer_stands : (n : Node) (layer : Layer) (ms : List Mark) → n ≡ roll-Node layer → ((p : Context) → AreAmong StandsAt (node_parts children layer p) ms)
+layer_stands : (n : Node) (layer : OfTrees Node-F) (ms : List Mark) → n ≡ roll-Node layer → ((p : Context) → AreAmong StandsAt (node_parts children layer p) ms)
     → (p : Context) → AreAmong StandsAt (in_expr (plain n) p) ms
 layer_stands n layer ms e h p =
     subst (λ z. AreAmong StandsAt z ms) (sym (in_expr-is (plain n) (record { wraps = 0; node = n }) p refl ∙ in_node-is n layer p e)) (h p)
 
-plain_is : (n : Node) (layer : Layer) (ms : List Mark) → n ≡ roll-Node layer → ((p : Context) → AreAmong StandsAt (node_parts children layer p) ms) → NameStands layer ms
+plain_is : (n : Node) (layer : OfTrees Node-F) (ms : List Mark) → n ≡ roll-Node layer → ((p : Context) → AreAmong StandsAt (node_parts children layer p) ms) → NameStands layer ms
     → IsExpr (plain n) ms
 plain_is n layer ms e h b = record {
   stand = layer_stands n layer ms e h;
@@ -149,10 +150,10 @@ chain_is kind first links ns ms c h g =
 
 pub wrapped_is : (e : Expr) (ms : List Mark) → IsExpr e ms → IsExpr (wrapped e) ms
 wrapped_is e ms h =
-    let layer : Expr-F Node Simple StmtForm Call Expr Link Arm Block Stmt = record { wraps = suc (out-Expr e).wraps; node = (out-Expr e).node } in
+    let layer : OfTrees Expr-F = record { wraps = suc (out-Expr e).wraps; node = (out-Expr e).node } in
     record {
       stand = λ p. subst (λ z. AreAmong StandsAt z ms) (sym (in_expr-is (wrapped e) layer p refl ∙ sym (in_expr-out e p))) (h.stand p);
-      named = subst (λ (x : Expr-F Node Simple StmtForm Call Expr Link Arm Block Stmt). NameStands (out-Node x.node) ms) (sym (out-roll-Expr layer)) h.named;
+      named = subst (λ (x : OfTrees Expr-F). NameStands (out-Node x.node) ms) (sym (out-roll-Expr layer)) h.named;
     }
 
 -- Calls
@@ -180,7 +181,7 @@ call_at : (name : List ℕ) (w : Bool) (given : Arguments) (block : Option Block
 call_at name w given block ns ms ks n h b =
     let call = call_of name w given block in
     let same : name ≡ (out-Call call).name =
-    sym (ap (λ (x : Call-F Node Simple StmtForm Call Expr Link Arm Block Stmt). x.name)
+    sym (ap (λ (x : OfTrees Call-F). x.name)
     (out-roll-Call (record { name = name; wrapped = w; args = given.args; options = given.options; block = block }))) in
     record {
       stand = λ p.
@@ -207,7 +208,7 @@ pub called_is : (t : Mark) (w : Bool) (given : Arguments) (ns ms : List Mark) �
     → IsExpr (plain (nodes.Call (call_of t.bytes w given None))) (ns ++ ms)
 called_is t w given ns ms n h = alone t.bytes w given ns ms (has_name t ns n) h
 
-get_has_name : (layer : Layer) (ms : List Mark) → is_get layer ≡ true → NameStands layer ms → HasName (codes "get") ms
+get_has_name : (layer : OfTrees Node-F) (ms : List Mark) → is_get layer ≡ true → NameStands layer ms → HasName (codes "get") ms
 get_has_name (Node-F.Name name) ms e h = subst (λ z. HasName z ms) (sym ((bytes_decides (codes "get") name).0 e)) h
 get_has_name (Node-F.Literal value) ms e h = absurd (true≢false (sym e))
 get_has_name (Node-F.Call call) ms e h = absurd (true≢false (sym e))
@@ -238,7 +239,7 @@ with_stands call b ns ms p h g =
     let kept : AreAmong StandsAt (called (record { context = p; call = call }) ∷ arguments) ns =
     front StandsAt (called (record { context = p; call = call }) ∷ arguments) old ns (subst (λ z. AreAmong StandsAt (called (record { context = p; call = call }) ∷ z) ns) parts h) in
     let same : (out-Call call).name ≡ (out-Call (call_with call b)).name =
-    sym (ap (λ (x : Call-F Node Simple StmtForm Call Expr Link Arm Block Stmt). x.name)
+    sym (ap (λ (x : OfTrees Call-F). x.name)
     (out-roll-Call (record { name = (out-Call call).name; wrapped = (out-Call call).wrapped; args = given.args; options = given.options; block = Some b }))) in
     let now : AreAmong StandsAt (called (record { context = p; call = call_with call b }) ∷ arguments) ns =
     record { before = kept.before; here = kept.here; after = kept.after; whole = kept.whole; holds = (kept.holds.0, kept.holds.1 ∙ same); rest = kept.rest } in
@@ -246,7 +247,7 @@ with_stands call b ns ms p h g =
     (sym (call_of_parts (out-Call call).name (out-Call call).wrapped given (Some b) p))
     (join StandsAt (called (record { context = p; call = call_with call b }) ∷ arguments) (whole_block children b (inside p)) ns ms now (g.stand (inside p)))
 
-node_with : (node : Node) (layer : Layer) (b : Block) (ns ms : List Mark) → node_takes_block layer ≡ true → ((p : Context) → AreAmong StandsAt (node_parts children layer p) ns)
+node_with : (node : Node) (layer : OfTrees Node-F) (b : Block) (ns ms : List Mark) → node_takes_block layer ≡ true → ((p : Context) → AreAmong StandsAt (node_parts children layer p) ns)
     → NameStands layer ns → IsWhole b ms → IsValue (plain (node_with_block node layer b)) (ns ++ ms)
 node_with node (Node-F.Name name) b ns ms t h n g =
     let call = call_of name false no_arguments (Some b) in
@@ -350,10 +351,10 @@ stmt_is line form ms h = record {
 pub block_is : (t : Mark) (names : List Mark) (stmts : List Stmt) (ns ms ks : List Mark) → IsBegun heads t ns → InOrder (IsNamed heads) names ms → InOrder IsStmt stmts ks
     → IsWhole (roll-Block (record { number = t.number; params = names_of names; stmts = stmts })) (ns ++ (ms ++ ks))
 block_is t names stmts ns ms ks b n h =
-    let layer : Block-F Node Simple StmtForm Call Expr Link Arm Block Stmt = record { number = t.number; params = names_of names; stmts = stmts } in
+    let layer : OfTrees Block-F = record { number = t.number; params = names_of names; stmts = stmts } in
     let block = roll-Block layer in
     let own : ns ≡ t ∷ [] = b.shows_own ∙ ap (λ c. cond c (t ∷ []) []) (begin_head t.terminal b.holds) in
-    let number : t.number ≡ (out-Block block).number = sym (ap (λ (x : Block-F Node Simple StmtForm Call Expr Link Arm Block Stmt). x.number) (out-roll-Block layer)) in
+    let number : t.number ≡ (out-Block block).number = sym (ap (λ (x : OfTrees Block-F). x.number) (out-roll-Block layer)) in
     let opens : AreAmong StandsAt (opened block ∷ []) ns = record { before = []; here = t; after = []; whole = own; holds = (b.holds, number); rest = tt } in
     record {
       stand = λ p.

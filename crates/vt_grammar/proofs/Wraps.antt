@@ -9,7 +9,7 @@ use Rattle.vt_grammar.specs.declared.parts.Part.TheVariants as parts
 use Rattle.vt_grammar.specs.declared.terminals.Terminal.{Terminal}
 use Rattle.vt_grammar.specs.Form.{Form, either}
 use Rattle.vt_grammar.specs.Marks.{Mark}
-use Rattle.vt_grammar.specs.Trees.{named_value, is_bare_get, with_part, with_parts, chain_tree, comparison}
+use Rattle.vt_grammar.specs.Trees.{named_tree, is_bare_get, with_part, with_parts, chain_tree, comparison}
 use Rattle.vt_grammar.specs.Grammar.{Opened, literal, named, primary, postfix, signed, unary, chain, term, sum, comp, conj, disj, negated, negation, expr, command, cond_form, parens_of, list_of, opened}
 
 -- each value of the form has at most n pairs round it
@@ -46,7 +46,7 @@ comparison_round : (n : ℕ) (e : Expr) (l : Option Link) → (out-Expr e).wraps
 comparison_round n e None h = h
 comparison_round n e (Some l) h = omega arith
 
-named_round : (name : List ℕ) (given : Option Arguments) → (out-Expr (named_value name given)).wraps ≡ 0
+named_round : (name : List ℕ) (given : Option Arguments) → (out-Expr (named_tree name given)).wraps ≡ 0
 named_round name None = refl
 named_round name (Some given) = refl
 

@@ -22,7 +22,7 @@ use Rattle.vt_grammar.specs.declared.terminals.Terminal.TheVariants as terminals
 use Rattle.vt_grammar.specs.Form.{Form, one, empty, nothing, next, either, mapped, optional, only, with_its, many, many_from}
 use Rattle.vt_grammar.specs.Marks.{Mark}
 use Rattle.vt_grammar.specs.Values.{literal_of, label_name}
-use Rattle.vt_grammar.specs.Trees.{Argument, Left, gathered, no_arguments, plain, wrapped, call_of, named_value, dot_value, left_after, comparison, is_bare_get, with_parts, signed_tree, link_tree, chain_tree, takes_block, with_block, set_of, is_unless, form_tree, stmt_tree, arm_tree, block_tree, present}
+use Rattle.vt_grammar.specs.Trees.{Argument, Left, gathered, no_arguments, plain, wrapped, call_of, named_tree, dot_call, left_after, comparison, is_bare_get, with_parts, signed_tree, link_tree, chain_tree, takes_block, with_block, set_of, is_unless, form_tree, stmt_tree, arm_tree, block_tree, present}
 
 -- Terminals
 
@@ -127,16 +127,16 @@ literal = mapped (λ (t : Mark). plain (nodes.Literal (literal_of t))) (among is
 
 -- a name, or a name and arguments in parentheses
 unfoldable pub named : Opened → Form Mark Expr
-named o = mapped (λ (p : Mark × Option Arguments). named_value p.0.bytes p.1) (next (terminal terminals.Name) (λ _. optional o.call))
+named o = mapped (λ (p : Mark × Option Arguments). named_tree p.0.bytes p.1) (next (terminal terminals.Name) (λ _. optional o.call))
 
 unfoldable pub primary : Opened → Form Mark Expr
 primary o = either literal (either (named o) (either o.parens o.list))
 
 unfoldable pub dot : Opened → Form Mark Call
-dot o = mapped (λ (p : Mark × (Mark × (Option Arguments × Option Block))). dot_value p.1.0.bytes p.1.1.0 p.1.1.1)
+dot o = mapped (λ (p : Mark × (Mark × (Option Arguments × Option Block))). dot_call p.1.0.bytes p.1.1.0 p.1.1.1)
     (next (terminal terminals.Dot) (λ _. next (terminal terminals.Name) (λ _. next (optional o.call) (λ _. optional o.braces))))
 
--- an index or a dot, where one more may follow
+-- one part behind a value, an index or a dot, where one more may stand
 unfoldable pub part : Opened → Left → Form Mark Part
 part o (zero, fresh) = nothing
 part o (suc n, fresh) = either (mapped (λ (e : Expr). parts.Index e) o.index) (mapped (λ (c : Call). parts.Dot c) (dot o))

@@ -20,6 +20,7 @@ use Rattle.vt_tree.specs.declared.statement.Simple.{Simple}
 use Rattle.vt_tree.specs.declared.statement.Stmt.{Stmt, roll-Stmt}
 use Rattle.vt_tree.specs.declared.statement.StmtForm.{StmtForm}
 use Rattle.vt_tree.specs.declared.statement.StmtForm.TheVariants as forms
+use Rattle.vt_tree.specs.Layers.{OfTrees}
 use Rattle.vt_grammar.specs.declared.parts.Arguments.{Arguments}
 use Rattle.vt_grammar.specs.declared.parts.Part.{Part}
 use Rattle.vt_grammar.specs.declared.parts.Part.TheVariants as parts
@@ -67,20 +68,17 @@ call_with c b = let call = out-Call c in
     roll-Call (record { name = call.name; wrapped = call.wrapped; args = call.args; options = call.options; block = Some b })
 
 -- a name alone, or with arguments in parentheses the call of it
-abbrev pub named_value : List ℕ → Option Arguments → Expr
-named_value name None = plain (nodes.Name name)
-named_value name (Some given) = plain (nodes.Call (call_of name true given None))
+abbrev pub named_tree : List ℕ → Option Arguments → Expr
+named_tree name None = plain (nodes.Name name)
+named_tree name (Some given) = plain (nodes.Call (call_of name true given None))
 
 -- what follows a dot, with the arguments in parentheses and the block in braces where they are there
-abbrev pub dot_value : List ℕ → Option Arguments → Option Block → Call
-dot_value name None block = call_of name false no_arguments block
-dot_value name (Some given) block = call_of name true given block
+abbrev pub dot_call : List ℕ → Option Arguments → Option Block → Call
+dot_call name None block = call_of name false no_arguments block
+dot_call name (Some given) block = call_of name true given block
 
--- one level of a node
-abbrev pub Layer : Type 0
-Layer = Node-F Node Simple StmtForm Call Expr Link Arm Block Stmt
-
-abbrev pub is_get : Layer → Bool
+-- the name `get`
+abbrev pub is_get : OfTrees Node-F → Bool
 is_get (Node-F.Name name) = bytes_eq (codes "get") name
 is_get _ = false
 
@@ -147,7 +145,7 @@ abbrev pub comparison : Expr → Option Link → Expr
 comparison e None = e
 comparison e (Some l) = plain (nodes.Chain chains.Comp e (l ∷ []))
 
-abbrev pub node_takes_block : Layer → Bool
+abbrev pub node_takes_block : OfTrees Node-F → Bool
 node_takes_block (Node-F.Name name) = true
 node_takes_block (Node-F.Call call) = true
 node_takes_block (Node-F.Dot of call) = is_none (out-Call call).block
@@ -158,7 +156,7 @@ node_takes_block _ = false
 unfoldable pub takes_block : Expr → Bool
 takes_block e = nat_eq (out-Expr e).wraps 0 && node_takes_block (out-Node (out-Expr e).node)
 
-abbrev pub node_with_block : Node → Layer → Block → Node
+abbrev pub node_with_block : Node → OfTrees Node-F → Block → Node
 node_with_block node (Node-F.Name name) b = nodes.Call (call_of name false no_arguments (Some b))
 node_with_block node (Node-F.Call call) b = nodes.Call (call_with call b)
 node_with_block node (Node-F.Dot of call) b = nodes.Dot of (call_with call b)

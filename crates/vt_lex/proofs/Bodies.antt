@@ -8,8 +8,7 @@ use Rattle.vt_lex.specs.declared.token.TokenKind.TheVariants.{Text}
 use Rattle.vt_lex.specs.declared.fault.LexKind.TheVariants.{Long}
 use Rattle.vt_lex.specs.declared.lexeme.Sort.TheVariants.{Token}
 use Rattle.vt_lex.specs.Lexemes.{lexeme, text_of}
-use Rattle.vt_lex.specs.Texts.{Body, and_byte, with_unit, unit_of, body_of, value_of, value_of_body, IsTextForm}
-use Rattle.vt_lex.specs.private.Measures.{measured}
+use Rattle.vt_lex.specs.Texts.{Body, and_byte, with_unit, unit_of, body_of, value_of, value_of_body, IsTextForm, measured}
 
 -- the rest begins with these bytes of the value, whose form has so many bytes
 abbrev pub prepend : ℕ → List ℕ → Option Body → Option Body

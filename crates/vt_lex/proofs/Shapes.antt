@@ -324,7 +324,7 @@ last_taken quote b (Byte value len) body unit e = nothing (eqb len 1) e where
   nothing true f = absurd (let z : None ≡ Some body = f in cc)
   nothing false f = absurd (let z : None ≡ Some body = f in cc)
 
-body_taken : (quote : ℕ) (bs : List ℕ) (body : Body) → body_of quote bs ≡ Some body → body_of quote (take body.len bs) ≡ Some body
+pub body_taken : (quote : ℕ) (bs : List ℕ) (body : Body) → body_of quote bs ≡ Some body → body_of quote (take body.len bs) ≡ Some body
 body_taken quote [] body e = absurd (let z : None ≡ Some body = e in cc)
 body_taken quote (b ∷ []) body e = last_taken quote b (unit_of quote b 0) body refl e
 body_taken quote (b ∷ c ∷ bs) body e =

@@ -1,7 +1,7 @@
 -- The tables of the program are the words and operators of the language.
 use Rattle.std.proofs.Common.{◌≡◌, ℕ, List, ◌++◌, map, refl}
 use Rattle.vt_frac.specs.Names.{keywords, reserved}
-use Rattle.vt_lex.specs.declared.words.TheConstants.{JOINING_OPERATORS, PLAIN_OPERATORS, JOINING_KEYWORDS, PLAIN_KEYWORDS, RESERVED}
+use Rattle.vt_lex.specs.declared.lexicon.TheConstants.{JOINING_OPERATORS, PLAIN_OPERATORS, JOINING_KEYWORDS, PLAIN_KEYWORDS, RESERVED}
 use Rattle.vt_lex.specs.Lexicon.{operators, joining}
 
 -- the texts of a constant

@@ -1,5 +1,6 @@
 -- The form of a text and its value. A byte past the end of the bytes counts as 0 here. The project's own.
 use Rattle.std.specs.Prelude.{◌≡◌, ℕ, ◌+◌, ◌≤◌, ◌⊎◌, ◌&&◌, ◌==◌, if◌then◌else◌, List, [], ◌∷◌, length, drop, slice_index, Option, Some, None}
+use Rattle.vt_lex.specs.declared.texts.Measure.{Measure}
 use Rattle.vt_lex.specs.declared.texts.TextUnit.{TextUnit}
 use Rattle.vt_lex.specs.declared.texts.TextUnit.TheVariants.{Closing, Byte, Bad}
 
@@ -48,6 +49,11 @@ abbrev pub body_of : ℕ → List ℕ → Option Body
 body_of quote [] = None
 body_of quote (b ∷ []) = with_unit (unit_of quote b 0) None None
 body_of quote (b ∷ c ∷ bytes) = with_unit (unit_of quote b c) (body_of quote (c ∷ bytes)) (body_of quote bytes)
+
+-- the lengths of the form and of the value
+abbrev pub measured : Option Body → Option Measure
+measured None = None
+measured (Some body) = Some (record { len = body.len; count = length body.value })
 
 -- the value, if there is one
 abbrev pub value_of_body : Option Body → List ℕ

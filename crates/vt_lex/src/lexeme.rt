@@ -7,10 +7,10 @@ ghost use Rattle.vt_lex.specs.Lexemes.{lexeme_of, lexeme, named, ends_label, wor
 
 use crate::bytes::{begins_name, begins_symbol, byte_or, digits_len, is_blank, line_len, name_len};
 use crate::fault::LexKind;
+use crate::lexicon::{is_keyword, is_reserved, operator_len};
 use crate::numbers::{decimal_fits, whole_fits};
 use crate::texts::measure_text;
 use crate::token::TokenKind;
-use crate::words::{is_keyword, is_reserved, operator_len};
 
 /// What sort of lexeme stands in a text.
 #[derive(Clone, Copy)]

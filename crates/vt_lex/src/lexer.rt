@@ -7,8 +7,8 @@ ghost use Rattle.vt_lex.specs.Answers.{Faults};
 use crate::bytes::{byte_or, is_space};
 use crate::fault::LexFault;
 use crate::lexeme::{Lexeme, Sort, lexeme_at};
+use crate::lexicon::is_joining;
 use crate::token::{Token, TokenKind};
-use crate::words::is_joining;
 use std::alloc::{AllocError, Global};
 
 /// The innermost open bracket, or 0.

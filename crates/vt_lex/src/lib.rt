@@ -6,10 +6,10 @@ mod fault;
 mod laws;
 mod lexeme;
 mod lexer;
+mod lexicon;
 mod numbers;
 mod texts;
 mod token;
-mod words;
 
 pub use fault::{LexFault, LexKind};
 pub use laws::{
@@ -17,5 +17,5 @@ pub use laws::{
     reason_law, refused_law, skipped_law,
 };
 pub use lexer::lex;
-pub use texts::text_value;
+pub use texts::{Measure, measure_text, text_value};
 pub use token::{Token, TokenKind};

@@ -1,7 +1,7 @@
 //! The form of a text and its value.
 ghost use Rattle.std.specs.Prelude.{◌≡◌, ◌+◌, ◌<◌, ◌≤◌, ◌^◌, length, slice_index, drop, IfOk, IfSome};
-ghost use Rattle.vt_lex.specs.Texts.{unit_of, escaped, body_of, IsTextForm, value_of};
-ghost use Rattle.vt_lex.specs.private.Measures.{measured, IsWithin};
+ghost use Rattle.vt_lex.specs.Texts.{unit_of, escaped, body_of, measured, IsTextForm, value_of};
+ghost use Rattle.vt_lex.specs.private.Measures.{IsWithin};
 
 use crate::bytes::byte_or;
 use std::alloc::Global;
@@ -20,9 +20,11 @@ pub(crate) enum TextUnit {
 
 /// How many bytes the form of a text has behind its opening quote, and how many its value has.
 #[derive(Clone, Copy)]
-pub(crate) struct Measure {
-    pub(crate) len: usize,
-    pub(crate) count: usize,
+pub struct Measure {
+    /// The bytes of the form, with its closing quote.
+    pub len: usize,
+    /// The bytes of the value.
+    pub count: usize,
 }
 
 /// The byte that a backslash and this byte stand for.
@@ -71,7 +73,7 @@ fn unit_at(quote: u8, bytes: &[u8]) -> TextUnit
 }
 
 /// The lengths of the rest of a text behind its opening quote, if it ends well on its line.
-pub(crate) fn measure_text(quote: u8, bytes: &[u8]) -> Option<Measure>
+pub fn measure_text(quote: u8, bytes: &[u8]) -> Option<Measure>
     requires quoted { 0 < quote }
     requires short { length bytes.now < 2 ^ 32 }
     ensures lengths { result ≡ measured (body_of quote bytes.now) }

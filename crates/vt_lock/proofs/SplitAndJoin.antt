@@ -8,7 +8,7 @@ use Rattle.atomic_table.specs.Table.{State, Me, step, keeps, Allows, Splits, Joi
 use Rattle.atomic_table.proofs.Lists.{at_set, set_else, at_longer, at_snoc}
 use Rattle.vt_lock.specs.declared.view.View.{View}
 use Rattle.vt_lock.specs.declared.view.Stage.{Stage}
-use Rattle.vt_lock.specs.declared.view.Part.{Part}
+use Rattle.vt_lock.specs.declared.view.JoinedPart.{JoinedPart}
 use Rattle.vt_lock.specs.declared.view.Stage.TheVariants.{Resting, Joining}
 use Rattle.vt_lock.specs.Numbers.{occurrences, one_if_below}
 use Rattle.vt_lock.specs.Logs.{ContinuesWithout, HasNoneOf}
@@ -138,7 +138,7 @@ module _ {T X E : Type 0} (key : T → X) (log : T → List E) (worker : E → �
       }
 
   -- after a join a load tells what the two had seen of each other
-  pub settle_keeps : (slots id : ℕ) (me : Me (Option T) V) (p q : Part E) → me.0.stage ≡ Joining p q → me.1 ≡ []
+  pub settle_keeps : (slots id : ℕ) (me : Me (Option T) V) (p q : JoinedPart E) → me.0.stage ≡ Joining p q → me.1 ≡ []
       → Allows (KeepsTurns key log worker first) slots id me 1 (λ n. n) (settle_tells key log worker (step slots 1 0 0 none) me)
   settle_keeps slots id me p q joining empty s r _ at _ =
       let v : V = me.0 in

@@ -31,6 +31,7 @@ module _ {E : Type 0} (worker : E → ℕ) where
   ShorterBegins ns xs ms ys = (length xs ≤ length ys → ContinuesWithout ns xs ys) × (length ys ≤ length xs → ContinuesWithout ms ys xs)
 
 module _ {E : Type 0} where
+  -- the first list where the number is above 0, else the second
   abbrev pub first_if_positive : ℕ → List E → List E → List E
   first_if_positive zero xs ys = ys
   first_if_positive (suc n) xs ys = xs

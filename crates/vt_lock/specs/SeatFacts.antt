@@ -13,6 +13,7 @@ pub record SeatFacts (X E : Type 0) : Type 0 where
   pub numbers : List ℕ
   pub has_turn : Bool
 
+-- whether a seat at this stage has the turn, as it stands between two calls
 abbrev pub has_turn_at : {E : Type 0} → Stage E → Bool
 has_turn_at Resting = false
 has_turn_at Opening = false

@@ -4,7 +4,7 @@ use mathlib.Core.Option.{some, none}
 use mathlib.Core.Option as maybe
 use Rattle.vt_lock.specs.declared.view.View.{View}
 use Rattle.vt_lock.specs.declared.view.Stage.{Stage}
-use Rattle.vt_lock.specs.declared.view.Part.{Part}
+use Rattle.vt_lock.specs.declared.view.JoinedPart.{JoinedPart}
 use Rattle.vt_lock.specs.declared.view.Stage.TheVariants.{Resting, Opening, Waiting, Holding, Joining}
 use Rattle.vt_lock.specs.Numbers.{half_of, one_if_equal}
 use Rattle.vt_lock.specs.Logs.{ContinuesWithout, ShorterBegins, longer}
@@ -85,7 +85,8 @@ module _ {X E : Type 0} where
   abbrev pub upper_half : View X E → View X E
   upper_half v = record v { numbers = drop (half_of v.numbers) v.numbers }
 
-  abbrev pub part_of : View X E → Part E
+  -- what a view brings into a join
+  abbrev pub part_of : View X E → JoinedPart E
   part_of v = record { numbers = v.numbers; seen = v.seen }
 
   -- the view for the numbers of both, with the longer log, in the moment after the join

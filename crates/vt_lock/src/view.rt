@@ -1,8 +1,8 @@
 //! What a seat knows. These types are there for proofs: no value of them is made, and their numbers have no end.
 use std::collections::LinkedList;
 
-/// Some worker numbers, and a log that was seen for them.
-pub struct Part<E> {
+/// What a seat brings into a join: its worker numbers, and the log that it has seen.
+pub struct JoinedPart<E> {
     pub numbers: LinkedList<u64>,
     pub seen: LinkedList<E>,
 }
@@ -18,7 +18,7 @@ pub enum Stage<E> {
     /// It has this ticket, and the turn.
     Holding(u64),
     /// It was joined from these two, and has not looked since.
-    Joining(Part<E>, Part<E>),
+    Joining(JoinedPart<E>, JoinedPart<E>),
 }
 
 /// The key of what is kept, the log that was seen, the worker numbers that the seat speaks for, and its stage.

@@ -15,7 +15,8 @@ use Rattle.vt_state.specs.LookUps.{HaveOwnPlaces, IsFirstAbove, IsLastBelow, Mat
 use Rattle.vt_state.proofs.OwnPlaces.{index_of}
 use Rattle.vt_state.proofs.ScanLemmas.{is_less}
 use Rattle.vt_meaning.specs.Laws.{LookUpsAreRight}
-use Rattle.vt_meaning.specs.LookUps.{first_above, higher, is_before, is_took, last_below, lower, matches_event, matches_some, meets_wants}
+use Rattle.vt_meaning.specs.LookUps.{first_above, higher, is_took, last_below, lower, matches_event, matches_some, meets_wants}
+use Rattle.vt_meaning.specs.Places.{is_before}
 use Rattle.vt_meaning.proofs.Matching.{match_test_is_right}
 
 none_some : {A : Type 0} {x : A} → ◌≡◌ {A = Option A} None (Some x) → ⊥

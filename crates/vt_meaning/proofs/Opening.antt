@@ -11,8 +11,9 @@ use Rattle.vt_run.specs.RenderLimits.{OptionsView}
 use Rattle.vt_run.specs.TextStarts.{text_start}
 use Rattle.vt_run.specs.Threads.{text_at}
 use Rattle.vt_meaning.specs.Laws.{IsTextThread, OpeningThreadsAreOfTexts}
-use Rattle.vt_meaning.specs.Session.{of_texts, start_of}
-use Rattle.vt_meaning.specs.World.{Thread, begun, opening_world}
+use Rattle.vt_meaning.specs.Session.{of_texts, start_of, opening_of}
+use Rattle.vt_meaning.specs.Traces.{Thread}
+use Rattle.vt_meaning.specs.World.{begun, opening_world}
 
 none_some : {A : Type 0} {x : A} → ◌≡◌ {A = Option A} None (Some x) → ⊥
 none_some h = cc
@@ -93,7 +94,7 @@ module _ (options : OptionsView) where
 pub opening_threads_are_of_texts : OpeningThreadsAreOfTexts
 opening_threads_are_of_texts key thread = (forth, back)
   where
-    forth : Contains (opening_world key) thread → IsTextThread key thread
+    forth : Contains (opening_world (opening_of key)) thread → IsTextThread key thread
     forth h =
         let of = of_text key.options 1 key.texts thread h in
         record {
@@ -106,11 +107,11 @@ opening_threads_are_of_texts key thread = (forth, back)
         }
 
     numbered : (number : ℕ) (time : Fraction) (tree : Block) → text_at key.texts number ≡ Some (time, Good tree) → is_past key.options.until time ≡ false →
-        Contains (opening_world key) (begun (text_start number time key.options))
+        Contains (opening_world (opening_of key)) (begun (text_start number time key.options))
     numbered zero time tree text below = absurd (none_some text)
     numbered (suc k) time tree text below =
         let n : 1 + k ≡ suc k = omega arith in
-        subst (λ m. Contains (opening_world key) (begun (text_start m time key.options))) n (listed key.options 1 key.texts k time tree text below)
+        subst (λ m. Contains (opening_world (opening_of key)) (begun (text_start m time key.options))) n (listed key.options 1 key.texts k time tree text below)
 
-    back : IsTextThread key thread → Contains (opening_world key) thread
-    back of = subst (Contains (opening_world key)) (sym of.fresh) (numbered of.number of.time of.tree of.text of.below)
+    back : IsTextThread key thread → Contains (opening_world (opening_of key)) thread
+    back of = subst (Contains (opening_world (opening_of key))) (sym of.fresh) (numbered of.number of.time of.tree of.text of.below)

@@ -1,6 +1,5 @@
 -- What a read and a wait find among events, as functions: after the time state of the tutorial, chapter 10.
 use Rattle.std.specs.Prelude.{ℕ, List, [], ◌∷◌, Bool, true, false, ◌&&◌, ◌||◌, ◌==◌, cond, not, nat_le, bytes_eq, length, drop, take, Option, Some, None}
-use Rattle.std.specs.Ordering.{is_lt}
 use Rattle.std.specs.List.{list_any}
 use Rattle.vt_path.specs.declared.pattern.Segment.{Segment}
 use Rattle.vt_path.specs.declared.pattern.Segment.TheVariants.{AnySegments, Parts}
@@ -11,11 +10,7 @@ use Rattle.vt_event.specs.declared.kind.Kind.{Kind}
 use Rattle.vt_event.specs.declared.kind.Kind.TheVariants.{Took}
 use Rattle.vt_event.specs.declared.place.Place.{Place}
 use Rattle.vt_event.specs.Event.{EventView}
-use Rattle.vt_event.specs.Order.{place_order}
-
--- one place is before another
-unfoldable pub is_before : Place → Place → Bool
-is_before place other = is_lt (place_order place other)
+use Rattle.vt_meaning.specs.Places.{is_before}
 
 -- brackets hold a byte
 abbrev pub holds : List ℕ → ℕ → Bool

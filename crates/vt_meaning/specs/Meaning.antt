@@ -8,12 +8,15 @@ use Rattle.vt_event.specs.declared.score.LivingState.{LivingState}
 use Rattle.vt_event.specs.declared.score.Outcome.{Outcome}
 use Rattle.vt_event.specs.declared.score.Outcome.TheVariants.{Scored, Spent}
 use Rattle.vt_event.specs.declared.score.Score.{Score}
+use Rattle.vt_event.specs.Event.{EventView}
 use Rattle.vt_event.specs.Order.{thread_order}
 use Rattle.vt_run.specs.Standing.{Stance, Ready, Asks, Waits, Asleep, Over}
-use Rattle.vt_meaning.specs.LookUps.{is_before}
-use Rattle.vt_meaning.specs.Session.{Key}
+use Rattle.vt_meaning.specs.Places.{is_before}
+use Rattle.vt_meaning.specs.Session.{Key, opening_of, threads_of}
+use Rattle.vt_meaning.specs.ThreadMeaning.{ThreadMeaning}
+use Rattle.vt_meaning.specs.Traces.{stance_in}
 use Rattle.vt_meaning.specs.Turns.{soonest, turn_of}
-use Rattle.vt_meaning.specs.World.{World, events_of, opening_world, stance_in, total_of}
+use Rattle.vt_meaning.specs.World.{Opening, World, events_of, opening_world, total_of}
 
 -- one more among those that are in order: before the first that is not before it, and not at all where that stands where it does
 abbrev pub put_in : {A : Type 0} → (A → A → Bool) → A → List A → List A
@@ -23,6 +26,14 @@ put_in before x (y ∷ ys) = cond (before y x) (y ∷ put_in before x ys) (cond 
 abbrev pub in_order : {A : Type 0} → (A → A → Bool) → List A → List A
 in_order before [] = []
 in_order before (x ∷ xs) = put_in before x (in_order before xs)
+
+-- events stand in order of place
+abbrev pub is_event_before : EventView → EventView → Bool
+is_event_before event other = is_before event.place other.place
+
+-- threads that live on stand in order of their lists
+abbrev pub is_living_before : Living → Living → Bool
+is_living_before living other = is_lt (thread_order living.thread other.thread)
 
 -- how a thread that stands so lives on: asleep past the horizon, or waiting for a match of its own pattern
 abbrev pub state_in : Stance → Option LivingState
@@ -37,33 +48,51 @@ living_by thread None = []
 living_by thread (Some state) = record { thread = thread; state = state } ∷ []
 
 -- the threads that live on
-abbrev pub living_in : Key → World → List Living
-living_in key [] = []
-living_in key (thread ∷ threads) = living_by thread.start.place.thread (state_in (stance_in key thread)) ++ living_in key threads
+abbrev pub living_in : ThreadMeaning → World → List Living
+living_in m [] = []
+living_in m (thread ∷ threads) = living_by thread.start.place.thread (state_in (stance_in m thread)) ++ living_in m threads
 
 -- all that happened in order of place, and the threads that live on in order of their lists
-unfoldable pub score_of : Key → World → Score
-score_of key world = record {
-  events = in_order (λ event other. is_before event.place other.place) (events_of key world);
-  living = in_order (λ thread other. is_lt (thread_order thread.thread other.thread)) (living_in key world);
+unfoldable pub score_of : ThreadMeaning → Opening → World → Score
+score_of m opening world = record {
+  events = in_order is_event_before (events_of m opening world);
+  living = in_order is_living_before (living_in m world);
 }
 
+-- what a world comes to: its cost goes above the budget, or a world in which no thread goes on
+pub data Ending : Type 0 where
+  OverBudget : Ending
+  Ends : World → Ending
+
 -- no thread goes on, or the one with the least place has its turn, and the others come after it
-abbrev pub goes_on : (World → Outcome) → Key → World → Option (ℕ × Place) → Outcome
-goes_on rest key world None = Scored (score_of key world)
-goes_on rest key world (Some next) = rest (turn_of key world next.0 (slice_get world next.0))
+abbrev pub goes_on : (World → Ending) → ThreadMeaning → Opening → World → Option (ℕ × Place) → Ending
+goes_on rest m opening world None = Ends world
+goes_on rest m opening world (Some next) = rest (turn_of m opening world next.0 (slice_get world next.0))
 
 -- what a world comes to in at most n turns: it is spent as soon as its total is above the budget
-abbrev pub turns : Key → ℕ → World → Outcome
-turns key zero world = Spent
-turns key (suc n) world =
-    cond (nat_lt key.options.budget (total_of key world)) Spent
-    (goes_on (turns key n) key world (soonest key (events_of key world) 0 world))
+abbrev pub turns : ThreadMeaning → Opening → ℕ → World → Ending
+turns m opening zero world = OverBudget
+turns m opening (suc n) world =
+    cond (nat_lt opening.budget (total_of m world)) OverBudget
+    (goes_on (turns m opening n) m opening world (soonest m (events_of m opening world) 0 world))
 
 -- Each turn does a step, which costs at least 1, or answers the ask that a step made: so with this many turns no session runs out of them before its budget is spent.
 abbrev pub enough_turns : ℕ → ℕ
 enough_turns budget = 2 * budget + 2
 
+-- what the opening world comes to
+unfoldable pub ending_of : ThreadMeaning → Opening → Ending
+ending_of m opening = turns m opening (enough_turns opening.budget) (opening_world opening)
+
+-- spent, or the score of the world that was come to
+abbrev pub outcome_of : ThreadMeaning → Opening → Ending → Outcome
+outcome_of m opening OverBudget = Spent
+outcome_of m opening (Ends world) = Scored (score_of m opening world)
+
+-- what threads with this meaning come to from this opening
+unfoldable pub meaning_by : ThreadMeaning → Opening → Outcome
+meaning_by m opening = outcome_of m opening (ending_of m opening)
+
 -- what a session means
 unfoldable pub meaning : Key → Outcome
-meaning key = turns key (enough_turns key.options.budget) (opening_world key)
+meaning key = meaning_by (threads_of key.texts key.options.until) (opening_of key)

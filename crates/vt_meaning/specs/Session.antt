@@ -1,5 +1,5 @@
--- A session as it is rendered, and what stands there before any thread acts: own.
-use Rattle.std.specs.Prelude.{ℕ, ◌+◌, List, [], ◌∷◌, ◌++◌, cond, not, filter}
+-- A session as it is rendered, what its threads mean, and what stands there before any of them acts: own.
+use Rattle.std.specs.Prelude.{ℕ, ◌+◌, List, [], ◌∷◌, ◌++◌, cond, not, filter, true}
 use Rattle.vt_frac.specs.Fraction.{Fraction}
 use Rattle.vt_event.specs.Event.{EventView}
 use Rattle.vt_run.specs.declared.start.Start.{Start}
@@ -9,6 +9,9 @@ use Rattle.vt_run.specs.declared.texts.Verdict.TheVariants.{Good, Bad}
 use Rattle.vt_run.specs.Actions.{is_past}
 use Rattle.vt_run.specs.RenderLimits.{OptionsView}
 use Rattle.vt_run.specs.TextStarts.{refused_event, text_start}
+use Rattle.vt_run.specs.Threads.{acts}
+use Rattle.vt_meaning.specs.ThreadMeaning.{ThreadMeaning}
+use Rattle.vt_meaning.specs.World.{Opening}
 
 -- what a rendering is asked for: the texts with their times and verdicts, the inputs, and the options
 pub record Key : Type 0 where
@@ -41,3 +44,21 @@ abbrev pub given_events : Key → List EventView
 given_events key =
     of_texts key.options.until refusal_of 1 key.texts
     ++ filter (λ input. not (is_past key.options.until input.place.time)) key.inputs
+
+-- what a session begins with
+abbrev pub opening_of : Key → Opening
+opening_of key = record { starts = opening_starts key; given = given_events key; budget = key.options.budget }
+
+-- a start with this horizon
+abbrev pub with_horizon : Fraction → Start → Start
+with_horizon until start = record start { until = until }
+
+-- What texts mean to their threads, up to this horizon. Here each thread may write everything: the meaning of a session does not ask.
+abbrev pub threads_of : Texts → Fraction → ThreadMeaning
+threads_of texts until = record {
+  until = until;
+  acts = λ start answers n. acts texts (with_horizon until start) answers n;
+  may = λ start pattern. true;
+  fit = λ start. true;
+  known = λ event. true;
+}

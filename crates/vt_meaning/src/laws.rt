@@ -1,20 +1,14 @@
 //! The laws of the meaning of a session. Each contract is a law; where a body calls a law of a thread, the law rests on it.
 
-ghost use Rattle.vt_meaning.specs.Laws.{LookUpsAreRight, MatchTestIsRight, MeaningIsOne, MeaningIsTotal, OpeningThreadsAreOfTexts, WorkersDoNotMatter};
+ghost use Rattle.vt_meaning.specs.Laws.{LookUpsAreRight, MatchTestIsRight, MeaningIsOne, MeaningIsTotal, OpeningThreadsAreOfTexts, TurnsEnd, TurnsEndOnce, WorkersDoNotMatter};
 
-/// The number of workers has no part in the meaning.
-pub fn workers_do_not_matter()
-    ensures { WorkersDoNotMatter }
-{}
+use crate::real_threads::threads_of_texts_act;
 
 /// Every session means something: its turns come to an end.
 pub fn meaning_is_total()
     ensures { MeaningIsTotal }
 {
-    vt_run::each_step_costs();
-    vt_run::standing_tells_what_is_next();
-    vt_run::fewer_steps_are_a_prefix();
-    vt_run::answers_only_extend();
+    threads_of_texts_act();
 }
 
 /// No session means two things.
@@ -23,6 +17,11 @@ pub fn meaning_is_one()
 {
     meaning_is_total();
 }
+
+/// The number of workers has no part in the meaning.
+pub fn workers_do_not_matter()
+    ensures { WorkersDoNotMatter }
+{}
 
 /// The threads of the opening world are those of the good texts below the horizon.
 pub fn opening_threads_are_of_texts()
@@ -37,4 +36,14 @@ pub fn match_test_is_right()
 /// The look-ups find what a read and a wait find.
 pub fn look_ups_are_right()
     ensures { LookUpsAreRight }
+{}
+
+/// Turns come to an end from any opening, within twice the budget and two, if the threads have the laws of steps.
+pub fn turns_come_to_an_end()
+    ensures { TurnsEnd }
+{}
+
+/// They come to one end.
+pub fn turns_come_to_one_end()
+    ensures { TurnsEndOnce }
 {}

@@ -1,6 +1,6 @@
 -- The tokens of a lexed text have what the parser asks of them.
-use Rattle.std.proofs.Common.{◌≡◌, ℕ, suc, ◌+◌, ◌≤◌, ◌<◌, ◌&&◌, Bool, true, false, true≢false, cond, List, [], ◌∷◌, refl, sym, ap, ◌∙◌, length, slice_range, bytes_eq, is_ok, arith}
-use Rattle.std.specs.List.{All, list_all}
+use Rattle.std.proofs.Common.{◌≡◌, ℕ, suc, ◌+◌, ◌≤◌, ◌<◌, Bool, true, true≢false, List, [], ◌∷◌, refl, sym, ap, ◌∙◌, length, slice_range, is_ok, arith}
+use Rattle.std.specs.List.{All}
 use Rattle.vt_frac.proofs.DecimalForms as decimals
 use Rattle.vt_lex.specs.declared.token.Token.{Token}
 use Rattle.vt_lex.specs.declared.token.TokenKind.{TokenKind}
@@ -13,43 +13,20 @@ use Rattle.vt_lex.proofs.Placing.{tokens_in_order}
 use Rattle.vt_lex.proofs.Shapes.{tokens_have_forms}
 use Rattle.vt_grammar.specs.declared.terminals.Terminal.{Terminal}
 use Rattle.vt_grammar.specs.declared.terminals.Terminal.TheVariants as terminals
-use Rattle.vt_grammar.specs.Marks.{Spelling, keywords, operators, spaced, terminal_at, terminal_in, terminal_of}
+use Rattle.vt_grammar.specs.Marks.{keywords, operators, spaced, terminal_at, terminal_in, terminal_of}
 use Rattle.vt_grammar.specs.Tokens.{AreTokens, IsToken, spelled_in}
 use Rattle.vt_grammar.specs.Values.{HasValue}
+use Rattle.vt_grammar.proofs.FormedMarks.{is_plain, plain_in, spaced_plain}
 
--- a terminal that has no value
-abbrev is_plain : Terminal → Bool
-is_plain terminals.Whole = false
-is_plain terminals.Decimal = false
-is_plain terminals.Text = false
-is_plain _ = true
-
+-- of a terminal whose bytes say nothing no value is asked
 plain_value : (w : Terminal) → is_plain w ≡ true → (bytes : List ℕ) → HasValue w bytes
+plain_value terminals.Name e bytes = absurd (true≢false (sym e))
+plain_value terminals.Label e bytes = absurd (true≢false (sym e))
+plain_value terminals.Symbol e bytes = absurd (true≢false (sym e))
 plain_value terminals.Whole e bytes = absurd (true≢false (sym e))
 plain_value terminals.Decimal e bytes = absurd (true≢false (sym e))
 plain_value terminals.Text e bytes = absurd (true≢false (sym e))
 plain_value _ e bytes = tt
-
-spaced_plain : (w : Terminal) (gap tight : Bool) → is_plain w ≡ true → is_plain (spaced gap tight w) ≡ true
-spaced_plain terminals.CallOpen true true e = refl
-spaced_plain terminals.CallOpen true false e = refl
-spaced_plain terminals.CallOpen false true e = refl
-spaced_plain terminals.CallOpen false false e = refl
-spaced_plain _ true true e = e
-spaced_plain _ true false e = e
-spaced_plain _ false true e = e
-spaced_plain _ false false e = e
-
--- rows of plain terminals give plain terminals
-plain_choice : (w other : Terminal) (p b : Bool) (rest : Bool) → is_plain w ≡ p → (p && rest) ≡ true → (rest ≡ true → is_plain other ≡ true) → is_plain (cond b w other) ≡ true
-plain_choice w other true true rest f h later = f
-plain_choice w other true false rest f h later = later h
-plain_choice w other false b rest f h later = absurd (true≢false (sym h))
-
-plain_in : (rows : List Spelling) → list_all (λ row. is_plain row.1) rows ≡ true → (bytes : List ℕ) → is_plain (terminal_in rows bytes) ≡ true
-plain_in [] e bytes = refl
-plain_in ((spelling, w) ∷ rows) e bytes =
-    plain_choice w (terminal_in rows bytes) (is_plain w) (bytes_eq spelling bytes) (list_all (λ row. is_plain row.1) rows) refl e (λ h. plain_in rows h bytes)
 
 terminal_has_value : (kind : TokenKind) (gap tight : Bool) (bytes : List ℕ) → IsFormOf kind bytes → HasValue (terminal_at kind gap tight bytes) bytes
 unfolding decimal_fits

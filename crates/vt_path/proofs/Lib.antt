@@ -18,3 +18,5 @@ pub mod LiteralLemmas
 pub mod KeptLemmas
 pub mod OneText
 pub mod AnyOfLemmas
+pub mod LiteralTextLemmas
+pub mod OneKept

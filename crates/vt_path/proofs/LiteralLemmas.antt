@@ -68,7 +68,7 @@ byte_parts_same (x ∷ xs) (y ∷ ys) e =
     let b : byte_parts xs ≡ byte_parts ys = cc in
     ap (λ v. v ∷ xs) a ∙ ap (λ v. y ∷ v) (byte_parts_same xs ys b)
 
-literal_same : (xs ys : List (List ℕ)) → literal_of xs ≡ literal_of ys → xs ≡ ys
+pub literal_same : (xs ys : List (List ℕ)) → literal_of xs ≡ literal_of ys → xs ≡ ys
 literal_same [] [] e = refl
 literal_same [] (y ∷ ys) e = absurd (let z : [] ≡ literal_segment y ∷ literal_of ys = e in cc)
 literal_same (x ∷ xs) [] e = absurd (let z : literal_segment x ∷ literal_of xs ≡ [] = e in cc)

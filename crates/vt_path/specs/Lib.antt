@@ -1,8 +1,10 @@
 pub mod AnyOf
 pub mod Byte
 pub mod Inner
+pub mod InnerPattern
 pub mod Kept
 pub mod KeptPattern
+pub mod LiteralText
 pub mod Match
 pub mod Path
 pub mod Pattern

@@ -1,3 +1,4 @@
+pub mod LiteralWriting
 pub mod Marks
 pub mod PathReading
 pub mod PatternReading

@@ -6,6 +6,7 @@ mod fault;
 mod inner_path;
 mod laws;
 mod literal_pattern;
+mod literal_text;
 mod marks;
 mod names;
 mod part_match;
@@ -17,7 +18,7 @@ mod pattern_reader;
 
 pub use fault::PathFault;
 pub use inner_path::{InnerKind, inner};
-pub use laws::{one_path_law, one_pattern_law};
+pub use laws::{one_kept_path_law, one_path_law, one_pattern_law};
 pub use literal_pattern::{any_of, literal};
 pub use names::Names;
 pub use path::Path;

@@ -1,6 +1,7 @@
 //! Paths of events.
 
 ghost use Rattle.std.specs.Prelude.{◌≡◌, ◌++◌, IfOk, OnErr, OnOk};
+ghost use Rattle.vt_path.specs.Kept.{IsKeptPath};
 ghost use Rattle.vt_path.specs.Path.{path_text};
 ghost use Rattle.vt_path.specs.Match.{is_inner};
 
@@ -37,10 +38,11 @@ impl Path {
         })
     }
 
-    /// Appends the path as it is written.
+    /// Appends the path as it is written. Each path is one of a program.
     pub fn write(&self, alloc: Global, out: &mut Vec<u8>) -> Result<(), NoMemory>
         ensures ok { OnOk result (out.new.items ≡ out.old.items ++ path_text self.now) }
         ensures err { OnErr result (out.new.items ≡ out.old.items) }
+        ensures kept { IsKeptPath self.now }
     {
         let text = path_bytes(alloc, self.segments.as_slice())?;
         out.extend_from_slice(text.as_slice())?;

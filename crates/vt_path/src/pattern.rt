@@ -1,6 +1,7 @@
 //! Patterns of paths, and their parts.
 
 ghost use Rattle.std.specs.Prelude.{◌≡◌, ◌∷◌, ◌++◌, [], IfOk, OnErr, OnOk};
+ghost use Rattle.vt_path.specs.InnerPattern.{begins_inner, is_inner_pattern};
 ghost use Rattle.vt_path.specs.Pattern.{part_text, parts_text, pattern_text, segment_text};
 
 use crate::names::{Names, copy_names, names_bytes};
@@ -85,6 +86,16 @@ impl Pattern {
         out.extend_from_slice(text.as_slice())?;
         Ok(())
     }
+
+    /// Whether it is the pattern of an inner path. No other pattern matches one.
+    pub fn is_inner(&self) -> bool
+        ensures { result ≡ is_inner_pattern self.now }
+    {
+        match self.segments.as_slice() {
+            [] => false,
+            [first, ..] => first.begins_inner(),
+        }
+    }
 }
 
 fn copy_segments(alloc: Global, segments: &[Segment]) -> Result<Vec<Segment>, NoMemory>
@@ -110,6 +121,16 @@ fn pattern_bytes(alloc: Global, segments: &[Segment]) -> Result<Vec<u8>, NoMemor
 }
 
 impl Segment {
+    /// Whether its first byte is `!`.
+    fn begins_inner(&self) -> bool
+        ensures { result ≡ is_inner_pattern (self.now ∷ []) }
+    {
+        match self {
+            Segment::AnySegments => false,
+            Segment::Parts(parts) => begins_inner(parts.parts.as_slice()),
+        }
+    }
+
     fn copy(&self, alloc: Global) -> Result<Segment, NoMemory>
         ensures { IfOk result (λ segment. segment ≡ self.now) }
     {
@@ -129,6 +150,28 @@ impl Segment {
             Segment::AnySegments => Ok(Vec::from_slice(alloc, b"**")?),
             Segment::Parts(parts) => parts_bytes(alloc, parts.parts.as_slice()),
         }
+    }
+}
+
+fn begins_inner(parts: &[Part]) -> bool
+    ensures { result ≡ begins_inner parts.now }
+{
+    match parts {
+        [] => false,
+        [first, ..] => is_mark(first),
+    }
+}
+
+/// Whether it is the byte `!`.
+fn is_mark(part: &Part) -> bool
+    ensures { result ≡ begins_inner (part.now ∷ []) }
+{
+    match part {
+        Part::Byte(byte) => *byte == b'!',
+        Part::AnyBytes => false,
+        Part::AnyByte => false,
+        Part::Set(_) => false,
+        Part::Alternatives(_) => false,
     }
 }
 

@@ -11,11 +11,11 @@ pub mod MakeCalls
 pub mod NoteCalls
 pub mod NumberCalls
 pub mod PartCalls
-pub mod Parts
 pub mod private
 pub mod RandomCalls
 pub mod Repeating
 pub mod Shuffling
 pub mod Signatures
 pub mod Streams
+pub mod TakeAndDrop
 pub mod Turning

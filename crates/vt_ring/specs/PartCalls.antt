@@ -7,7 +7,7 @@ use Rattle.vt_ring.specs.Answers.{and_then}
 use Rattle.vt_ring.specs.Arguments.{count_from}
 use Rattle.vt_ring.specs.Called.{as_ring}
 use Rattle.vt_ring.specs.Limits.{within_limits}
-use Rattle.vt_ring.specs.Parts.{take_of, drop_of}
+use Rattle.vt_ring.specs.TakeAndDrop.{take_of, drop_of}
 use Rattle.vt_ring.specs.Repeating.{stretch_of, repeat_of}
 use Rattle.vt_ring.specs.Turning.{rotate_of, reverse_of, mirror_of, reflect_of}
 use Rattle.vt_ring.specs.Signatures.{a_ring, a_ring_and_a_whole, a_ring_and_perhaps_a_whole}

@@ -1,7 +1,7 @@
 //! The calls `take` and `drop`.
 
 ghost use Rattle.std.specs.Prelude.{◌≡◌, drop, take};
-ghost use Rattle.vt_ring.specs.Parts.{drop_of, take_of};
+ghost use Rattle.vt_ring.specs.TakeAndDrop.{drop_of, take_of};
 ghost use Rattle.vt_value.specs.Answers.{Gives};
 
 use crate::arguments::count_from;

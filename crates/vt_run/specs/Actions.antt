@@ -66,7 +66,7 @@ abbrev pub answered : Option Answer → State → (Answer → State → Ran) →
 answered None st go = halts
 answered (Some answer) st go = go answer (record st { used = st.used + 1 })
 
--- the last event that the pattern matches is asked for
+-- of the events below the thread's place the last one that the pattern matches is asked for
 abbrev pub reads : List Segment → Env → State → (Answer → State → Ran) → Ran
 reads pattern env st go = does 1 (Read (place_of env st) pattern) (answered (slice_get env.answers st.used) (acted st) go)
 

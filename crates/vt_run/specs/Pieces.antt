@@ -44,11 +44,12 @@ abbrev pub cost_of : List Step → ℕ
 cost_of [] = 0
 cost_of (step ∷ steps) = step.cost + cost_of steps
 
--- the last step makes the stop, and none before it makes one; `cost` is that of the steps before these
+-- a step that makes a stop is the last one, and that stop is this; after one that makes none it is as said of the later steps
 abbrev pub ends_at : Option Stop → List Step → Stop → Type 0 → Type 0
 ends_at None rest stop later = later
 ends_at (Some made) rest stop later = (made ≡ stop) × (rest ≡ [])
 
+-- the last step makes the stop, and none before it makes one; `cost` is that of the steps before these
 abbrev pub Fewest : Fraction → ℕ → ℕ → List Step → Stop → Type 0
 Fewest until limit cost [] stop = ⊥
 Fewest until limit cost (step ∷ rest) stop =
@@ -88,7 +89,7 @@ abbrev pub last_of : Option Action → List Action → Option Action
 last_of action [] = action
 last_of action (next ∷ actions) = last_of (Some next) actions
 
--- a wait is answered by an event with a path, whose micro step is below 2^31; after its answer nothing more is asked
+-- a wait is answered by an event with a path, whose micro step is below 2^31; where there is no answer nothing is said
 abbrev pub IsWaitAnswer : Option Answer → Type 0
 IsWaitAnswer None = Unit {0}
 IsWaitAnswer (Some Nothing) = ⊥

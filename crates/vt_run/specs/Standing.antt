@@ -14,7 +14,7 @@ use Rattle.vt_run.specs.Actions.{is_past}
 use Rattle.vt_run.specs.Evaluation.{Step}
 use Rattle.vt_run.specs.Pieces.{actions_of}
 
--- how many answers a thread has left, and the place of its next action
+-- the place of a thread's next action, and the answers that it has not used yet
 pub record Stand : Type 0 where
   pub place : Place
   pub answers : List Answer
@@ -92,7 +92,7 @@ pub data Stance : Type 0 where
   Ready : Place → Stance
   -- it asked at this place for the last event that the pattern matches
   Asks : Place → List Segment → Stance
-  -- it waits from this place for the next event that the pattern matches, or the second one, if there is one
+  -- it waits from this place for the next event that the pattern matches, or that the second pattern matches, if there is one
   Waits : Place → List Segment → Option (List Segment) → Stance
   -- it rests to this time, at or past the horizon
   Asleep : Fraction → Stance

@@ -8,6 +8,7 @@ use Rattle.vt_tree.specs.declared.statement.AssignOp.{AssignOp}
 use Rattle.vt_tree.specs.declared.statement.AssignOp.TheVariants as assign_by
 use Rattle.vt_tree.specs.declared.statement.Block.{Block}
 use Rattle.vt_tree.specs.declared.statement.Stmt.{Stmt}
+use Rattle.vt_tree.specs.Layers.{Layers}
 use Rattle.vt_value.specs.declared.value.Value.{Value}
 use Rattle.vt_value.specs.declared.value.Value.TheVariants.{Nil}
 use Rattle.vt_value.specs.Arithmetic.{ring_within}
@@ -36,11 +37,11 @@ abbrev pub ArmMeaning : Type 0
 ArmMeaning = Meaning → Meaning
 
 -- a layer of the tree, with the meaning of each child in its place
-abbrev pub OfMeanings : (Type 0 → Type 0 → Type 0 → Type 0 → Type 0 → Type 0 → Type 0 → Type 0 → Type 0 → Type 0) → Type 0
+abbrev pub OfMeanings : Layers → Type 0
 OfMeanings Layer = Layer Meaning Meaning Meaning CallMeaning Meaning LinkMeaning ArmMeaning BlockMeaning Meaning
 
 -- what is said of all types of meanings, of these
-abbrev pub at_meanings : {P : Type 0 → Type 0 → Type 0 → Type 0 → Type 0 → Type 0 → Type 0 → Type 0 → Type 0 → Type 0} → ((A B C D E F G H I : Type 0) → P A B C D E F G H I) → P Meaning Meaning Meaning CallMeaning Meaning LinkMeaning ArmMeaning BlockMeaning Meaning
+abbrev pub at_meanings : {P : Layers} → ((A B C D E F G H I : Type 0) → P A B C D E F G H I) → P Meaning Meaning Meaning CallMeaning Meaning LinkMeaning ArmMeaning BlockMeaning Meaning
 at_meanings f = f Meaning Meaning Meaning CallMeaning Meaning LinkMeaning ArmMeaning BlockMeaning Meaning
 
 -- the size of a node's value, as the value is known

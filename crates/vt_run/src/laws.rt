@@ -5,7 +5,7 @@ ghost use Rattle.vt_path.proofs.PatternDecided.{IsNoneWhereNoPattern, IsPatternW
 ghost use Rattle.vt_run.specs.laws.NoteLaws.{PieceLaw};
 ghost use Rattle.vt_run.specs.laws.StandingLaws.{AnswerLaw, MicroLaw, NextPlaceLaw, StandingLaw, StepCountLaw, StopsLaw, ThreadLaw, TimedLaw};
 ghost use Rattle.vt_run.specs.laws.StartLaws.{InputLaw, RefusalLaw, TextStartLaw};
-ghost use Rattle.vt_run.specs.laws.StepLaws.{AnswersLaw, BlocksLaw, ChildrenLaw, ClosingLaw, CostsLaw, EventsLaw, HorizonLaw, LastLaw, LimitsLaw, NextLaw, NumbersLaw, PiecesAreOne, PlacesLaw, PrefixLaw, RisingLaw};
+ghost use Rattle.vt_run.specs.laws.StepLaws.{AnswersLaw, BlocksLaw, ChildrenLaw, ClosingLaw, CostsLaw, EventPathsLaw, EventsLaw, HorizonLaw, LastLaw, LimitsLaw, NextLaw, NumbersLaw, PiecesAreOne, PlacesLaw, PrefixLaw, RisingLaw};
 ghost use Rattle.vt_run.specs.laws.SequenceLaws.{AfterOptionsLaw, AfterValuesLaw, LinksLaw, OptionsLaw, SequenceLaw, ValuesLaw};
 
 /// The steps of statements one after another are those of the first ones, followed, where these leave something, by those
@@ -140,6 +140,11 @@ pub fn children_run_blocks()
 /// Each event has the fields of its kind, and no call writes at an inner path.
 pub fn events_are_well_made()
     ensures { EventsLaw }
+{}
+
+/// Each event has a path exactly where its kind has one.
+pub fn events_have_paths_by_kind()
+    ensures { EventPathsLaw }
 {}
 
 /// All that a thread does is within the limits of the language.

@@ -10,7 +10,7 @@ use Rattle.vt_table.specs.declared.calls.Entry.{Entry}
 use Rattle.vt_table.specs.Names.{row_of}
 use Rattle.vt_table.specs.declared.calls.CallName.{CallName}
 use Rattle.vt_table.specs.declared.calls.CallName.TheVariants.{Abs}
-use Rattle.vt_table.specs.Calls.{Call, calls, names_of, call_at, number_of, as_row, call_row_at, call_row, call_named}
+use Rattle.vt_table.specs.Calls.{Row, calls, names_of, call_at, number_of, as_row, call_row_at, call_row, call_named}
 use Rattle.vt_table.specs.private.Entries.{row_of_entry}
 
 -- how many rows there are
@@ -36,21 +36,21 @@ number_bound Abs = lit< tt
 number_bound _ = lit< tt
 
 -- every row from a place on has the number of its place
-are_placed : ℕ → List Call → Bool
+are_placed : ℕ → List Row → Bool
 are_placed place [] = true
 are_placed place (row ∷ rows) = nat_eq (number_of row.call) place && are_placed (place + 1) rows
 
 same_number : (a b : ℕ) → nat_eq a b ≡ true → a ≡ b
 same_number a b e = grind (arith, nat_tests)
 
-placed_at : (rows : List Call) (place number : ℕ) (row : Call) → are_placed place rows ≡ true → slice_get rows number ≡ Some row → number_of row.call ≡ place + number
+placed_at : (rows : List Row) (place number : ℕ) (row : Row) → are_placed place rows ≡ true → slice_get rows number ≡ Some row → number_of row.call ≡ place + number
 unfolding are_placed
 placed_at [] place number row placed here = absurd (let z : None ≡ Some row = here in cc)
 placed_at (first ∷ rows) place zero row placed here =
     let same : first ≡ row = cc in
     let test : nat_eq (number_of first.call) place ≡ true = first_so (nat_eq (number_of first.call) place) (are_placed (place + 1) rows) placed in
     let e : number_of first.call ≡ place = same_number (number_of first.call) place test in
-    sym (ap (λ (r : Call). number_of r.call) same) ∙ e ∙ sym (add-zero place)
+    sym (ap (λ (r : Row). number_of r.call) same) ∙ e ∙ sym (add-zero place)
 placed_at (first ∷ rows) place (suc number) row placed here =
     let rest : number_of row.call ≡ (place + 1) + number = placed_at rows (place + 1) number row (second_so (nat_eq (number_of first.call) place) (are_placed (place + 1) rows) placed) here in
     omega arith
@@ -59,12 +59,12 @@ calls_placed : are_placed 0 calls ≡ true
 unfolding calls are_placed
 calls_placed = refl
 
-pub number_at : (number : ℕ) (row : Call) → slice_get calls number ≡ Some row → number_of row.call ≡ number
+pub number_at : (number : ℕ) (row : Row) → slice_get calls number ≡ Some row → number_of row.call ≡ number
 number_at number row here = placed_at calls 0 number row calls_placed here ∙ zero-add number
 
 -- what the names of the calls say of a name, said of its row
 module _ (table : List (List ℕ)) (is_table : table ≡ names_of calls) (name : List ℕ) where
-  pub call_found : (number : ℕ) (row : Call) → Some number ≡ row_of table name → slice_get calls number ≡ Some row → Some (as_row number row) ≡ call_row name
+  pub call_found : (number : ℕ) (row : Row) → Some number ≡ row_of table name → slice_get calls number ≡ Some row → Some (as_row number row) ≡ call_row name
   call_found number row found here =
       let at_names : row_of (names_of calls) name ≡ Some number = subst (λ t. row_of t name ≡ Some number) is_table (sym found) in
       let e : call_row name ≡ call_row_at number = ap (option_and_then call_row_at) at_names in

@@ -10,8 +10,8 @@ use Rattle.vt_table.specs.declared.calls.Need.TheVariants.{None as Without, Must
 use Rattle.vt_table.specs.declared.calls.CallRow.{CallRow}
 use Rattle.vt_table.specs.Names.{row_of}
 
--- a call: its name, and how a text may write it
-pub record Call : Type 0 where
+-- a row of the table: the name of a call, the call, and how a text may write it
+pub record Row : Type 0 where
   -- the name in a text
   pub name : List ℕ
   pub call : CallName
@@ -25,7 +25,8 @@ pub record Call : Type 0 where
   -- whether it has effects; the other calls are pure, or draw random words
   pub effect : Bool
 
-abbrev pub call : List ℕ → CallName → ℕ → ℕ → Need → Bool → Bool → Call
+-- the row of a call, by its parts in this order
+abbrev pub call : List ℕ → CallName → ℕ → ℕ → Need → Bool → Bool → Row
 call name which least most block dot effect = record { name = name; call = which; least = least; most = most; block = block; dot = dot; effect = effect }
 
 -- the greatest count that stands for any number
@@ -35,7 +36,7 @@ any = 255
 -- Every call of the language, in the order of the bytes of the names: the name, the call, the least and the greatest
 -- count, the block, dot, effect. `tick` and `look` have a receiver and a name with a dot, and a name at most without.
 -- (The names are after Sonic Pi and Ruby; what each takes is own.)
-unfoldable pub calls : List Call
+unfoldable pub calls : List Row
 calls =
     call (codes "abs") Abs 1 1 Without true false ∷
     call (codes "at") At 1 2 Must false true ∷
@@ -128,7 +129,7 @@ calls =
     []
 
 -- the names of rows, in their order
-abbrev pub names_of : List Call → List (List ℕ)
+abbrev pub names_of : List Row → List (List ℕ)
 names_of rows = map (λ row. row.name) rows
 
 -- the number of a call: its place in the order of the names, from 0 (own)
@@ -140,7 +141,7 @@ abbrev pub call_at : ℕ → Option CallName
 call_at number = option_map (λ row. row.call) (slice_get calls number)
 
 -- what callers see of a row
-abbrev pub as_row : ℕ → Call → CallRow
+abbrev pub as_row : ℕ → Row → CallRow
 as_row number row = record { number = number; least = row.least; most = row.most; block = row.block; dot = row.dot; effect = row.effect }
 
 -- what the row with this number says of its call, if there is one

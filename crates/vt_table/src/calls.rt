@@ -124,7 +124,7 @@ impl CallName {
     }
 }
 
-/// What a call asks of a block: it takes none, it must have one, or it may.
+/// What a call asks of a block: it takes none, it must have one, or it may have one. Today no row of the table has `May`.
 #[derive(Clone, Copy, Debug, PartialEq, Eq)]
 pub enum Need {
     None,

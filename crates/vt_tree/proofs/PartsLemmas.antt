@@ -13,6 +13,7 @@ use Rattle.vt_tree.specs.declared.statement.Stmt.{Stmt, out-Stmt, roll-Stmt, rol
 use Rattle.vt_tree.specs.declared.expression.Node.TheOpen.{Node-F, Simple-F, StmtForm-F, Call-F, Expr-F, Link-F, Arm-F, Block-F, Stmt-F}
 use Rattle.vt_tree.specs.declared.expression.Node.TheFolds.{rec-roll-Node, rec-roll-Simple, rec-roll-StmtForm, rec-roll-Call, rec-roll-Expr, rec-roll-Link, rec-roll-Arm, rec-roll-Block, rec-roll-Stmt}
 use Rattle.vt_tree.specs.Parts.{opened, Context, Held, children, if_there, inside, in_node, node_parts, node_step, in_simple, simple_parts, simple_step, in_form, form_parts, form_step, in_call, call_parts, call_step, in_expr, expr_parts, expr_step, in_link, link_parts, link_step, in_arm, arm_parts, arm_step, in_block, block_parts, block_step, in_stmt, stmt_parts, stmt_step}
+use Rattle.vt_tree.specs.Layers.{OfTrees}
 
 flat_map-map : {X Y Z : Type 0} (f : Y → List Z) (v : X → Y) (xs : List X) → flat_map (λ x. f (v x)) xs ≡ flat_map f (map v xs)
 flat_map-map f v [] = refl
@@ -75,7 +76,7 @@ module _ (N S G C E L A B T : Type 0) (vn : N → Node) (vs : S → Simple) (vg 
   stmt_law x = refl
 
 -- each type, at a value that is made of this layer, and at the layer that a value has
-pub in_node-is : (x : Node) (y : Node-F Node Simple StmtForm Call Expr Link Arm Block Stmt) (p : Context) → x ≡ roll-Node y → in_node x p ≡ node_parts children y p
+pub in_node-is : (x : Node) (y : OfTrees Node-F) (p : Context) → x ≡ roll-Node y → in_node x p ≡ node_parts children y p
 unfolding in_node in_simple in_form in_call in_expr in_link in_arm in_block in_stmt
 in_node-is x y p e =
     ap (λ z. in_node z p) e ∙ ap (λ (h : Held). h.parts p) (rec-roll-Node Held Held Held Held Held Held Held Held Held node_step simple_step form_step call_step expr_step link_step arm_step block_step stmt_step node_law y)
@@ -83,7 +84,7 @@ in_node-is x y p e =
 pub in_node-out : (x : Node) (p : Context) → in_node x p ≡ node_parts children (out-Node x) p
 in_node-out x p = in_node-is x (out-Node x) p (sym (roll-out-Node x))
 
-pub in_simple-is : (x : Simple) (y : Simple-F Node Simple StmtForm Call Expr Link Arm Block Stmt) (p : Context) → x ≡ roll-Simple y → in_simple x p ≡ simple_parts children y p
+pub in_simple-is : (x : Simple) (y : OfTrees Simple-F) (p : Context) → x ≡ roll-Simple y → in_simple x p ≡ simple_parts children y p
 unfolding in_node in_simple in_form in_call in_expr in_link in_arm in_block in_stmt
 in_simple-is x y p e =
     ap (λ z. in_simple z p) e ∙ ap (λ (h : Held). h.parts p) (rec-roll-Simple Held Held Held Held Held Held Held Held Held node_step simple_step form_step call_step expr_step link_step arm_step block_step stmt_step simple_law y)
@@ -91,7 +92,7 @@ in_simple-is x y p e =
 pub in_simple-out : (x : Simple) (p : Context) → in_simple x p ≡ simple_parts children (out-Simple x) p
 in_simple-out x p = in_simple-is x (out-Simple x) p (sym (roll-out-Simple x))
 
-pub in_form-is : (x : StmtForm) (y : StmtForm-F Node Simple StmtForm Call Expr Link Arm Block Stmt) (p : Context) → x ≡ roll-StmtForm y → in_form x p ≡ form_parts children y p
+pub in_form-is : (x : StmtForm) (y : OfTrees StmtForm-F) (p : Context) → x ≡ roll-StmtForm y → in_form x p ≡ form_parts children y p
 unfolding in_node in_simple in_form in_call in_expr in_link in_arm in_block in_stmt
 in_form-is x y p e =
     ap (λ z. in_form z p) e ∙ ap (λ (h : Held). h.parts p) (rec-roll-StmtForm Held Held Held Held Held Held Held Held Held node_step simple_step form_step call_step expr_step link_step arm_step block_step stmt_step form_law y)
@@ -99,7 +100,7 @@ in_form-is x y p e =
 pub in_form-out : (x : StmtForm) (p : Context) → in_form x p ≡ form_parts children (out-StmtForm x) p
 in_form-out x p = in_form-is x (out-StmtForm x) p (sym (roll-out-StmtForm x))
 
-pub in_call-is : (x : Call) (y : Call-F Node Simple StmtForm Call Expr Link Arm Block Stmt) (p : Context) → x ≡ roll-Call y → in_call x p ≡ call_parts children y p
+pub in_call-is : (x : Call) (y : OfTrees Call-F) (p : Context) → x ≡ roll-Call y → in_call x p ≡ call_parts children y p
 unfolding in_node in_simple in_form in_call in_expr in_link in_arm in_block in_stmt
 in_call-is x y p e =
     ap (λ z. in_call z p) e ∙ ap (λ (h : Held). h.parts p) (rec-roll-Call Held Held Held Held Held Held Held Held Held node_step simple_step form_step call_step expr_step link_step arm_step block_step stmt_step call_law y)
@@ -107,7 +108,7 @@ in_call-is x y p e =
 pub in_call-out : (x : Call) (p : Context) → in_call x p ≡ call_parts children (out-Call x) p
 in_call-out x p = in_call-is x (out-Call x) p (sym (roll-out-Call x))
 
-pub in_expr-is : (x : Expr) (y : Expr-F Node Simple StmtForm Call Expr Link Arm Block Stmt) (p : Context) → x ≡ roll-Expr y → in_expr x p ≡ expr_parts children y p
+pub in_expr-is : (x : Expr) (y : OfTrees Expr-F) (p : Context) → x ≡ roll-Expr y → in_expr x p ≡ expr_parts children y p
 unfolding in_node in_simple in_form in_call in_expr in_link in_arm in_block in_stmt
 in_expr-is x y p e =
     ap (λ z. in_expr z p) e ∙ ap (λ (h : Held). h.parts p) (rec-roll-Expr Held Held Held Held Held Held Held Held Held node_step simple_step form_step call_step expr_step link_step arm_step block_step stmt_step expr_law y)
@@ -115,7 +116,7 @@ in_expr-is x y p e =
 pub in_expr-out : (x : Expr) (p : Context) → in_expr x p ≡ expr_parts children (out-Expr x) p
 in_expr-out x p = in_expr-is x (out-Expr x) p (sym (roll-out-Expr x))
 
-pub in_link-is : (x : Link) (y : Link-F Node Simple StmtForm Call Expr Link Arm Block Stmt) (p : Context) → x ≡ roll-Link y → in_link x p ≡ link_parts children y p
+pub in_link-is : (x : Link) (y : OfTrees Link-F) (p : Context) → x ≡ roll-Link y → in_link x p ≡ link_parts children y p
 unfolding in_node in_simple in_form in_call in_expr in_link in_arm in_block in_stmt
 in_link-is x y p e =
     ap (λ z. in_link z p) e ∙ ap (λ (h : Held). h.parts p) (rec-roll-Link Held Held Held Held Held Held Held Held Held node_step simple_step form_step call_step expr_step link_step arm_step block_step stmt_step link_law y)
@@ -123,7 +124,7 @@ in_link-is x y p e =
 pub in_link-out : (x : Link) (p : Context) → in_link x p ≡ link_parts children (out-Link x) p
 in_link-out x p = in_link-is x (out-Link x) p (sym (roll-out-Link x))
 
-pub in_arm-is : (x : Arm) (y : Arm-F Node Simple StmtForm Call Expr Link Arm Block Stmt) (p : Context) → x ≡ roll-Arm y → in_arm x p ≡ arm_parts children y p
+pub in_arm-is : (x : Arm) (y : OfTrees Arm-F) (p : Context) → x ≡ roll-Arm y → in_arm x p ≡ arm_parts children y p
 unfolding in_node in_simple in_form in_call in_expr in_link in_arm in_block in_stmt
 in_arm-is x y p e =
     ap (λ z. in_arm z p) e ∙ ap (λ (h : Held). h.parts p) (rec-roll-Arm Held Held Held Held Held Held Held Held Held node_step simple_step form_step call_step expr_step link_step arm_step block_step stmt_step arm_law y)
@@ -131,7 +132,7 @@ in_arm-is x y p e =
 pub in_arm-out : (x : Arm) (p : Context) → in_arm x p ≡ arm_parts children (out-Arm x) p
 in_arm-out x p = in_arm-is x (out-Arm x) p (sym (roll-out-Arm x))
 
-pub in_block-is : (x : Block) (y : Block-F Node Simple StmtForm Call Expr Link Arm Block Stmt) (p : Context) → x ≡ roll-Block y → in_block x p ≡ block_parts children y p
+pub in_block-is : (x : Block) (y : OfTrees Block-F) (p : Context) → x ≡ roll-Block y → in_block x p ≡ block_parts children y p
 unfolding in_node in_simple in_form in_call in_expr in_link in_arm in_block in_stmt
 in_block-is x y p e =
     ap (λ z. in_block z p) e ∙ ap (λ (h : Held). h.parts p) (rec-roll-Block Held Held Held Held Held Held Held Held Held node_step simple_step form_step call_step expr_step link_step arm_step block_step stmt_step block_law y)
@@ -139,7 +140,7 @@ in_block-is x y p e =
 pub in_block-out : (x : Block) (p : Context) → in_block x p ≡ block_parts children (out-Block x) p
 in_block-out x p = in_block-is x (out-Block x) p (sym (roll-out-Block x))
 
-pub in_stmt-is : (x : Stmt) (y : Stmt-F Node Simple StmtForm Call Expr Link Arm Block Stmt) (p : Context) → x ≡ roll-Stmt y → in_stmt x p ≡ stmt_parts children y p
+pub in_stmt-is : (x : Stmt) (y : OfTrees Stmt-F) (p : Context) → x ≡ roll-Stmt y → in_stmt x p ≡ stmt_parts children y p
 unfolding in_node in_simple in_form in_call in_expr in_link in_arm in_block in_stmt
 in_stmt-is x y p e =
     ap (λ z. in_stmt z p) e ∙ ap (λ (h : Held). h.parts p) (rec-roll-Stmt Held Held Held Held Held Held Held Held Held node_step simple_step form_step call_step expr_step link_step arm_step block_step stmt_step stmt_law y)

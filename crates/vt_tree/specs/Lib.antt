@@ -1,3 +1,4 @@
 pub mod Forms
+pub mod Layers
 pub mod Parts
 pub mod WellFormed

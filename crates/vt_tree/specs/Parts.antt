@@ -12,6 +12,7 @@ use Rattle.vt_tree.specs.declared.statement.Block.{Block}
 use Rattle.vt_tree.specs.declared.statement.Simple.{Simple}
 use Rattle.vt_tree.specs.declared.statement.Stmt.{Stmt}
 use Rattle.vt_tree.specs.declared.statement.StmtForm.{StmtForm}
+use Rattle.vt_tree.specs.Layers.{Layers}
 
 -- the context in which a part of a tree stands
 pub record Context : Type 0 where
@@ -94,6 +95,7 @@ node_parts in_its (Node-F.Chain kind first rest) context = in_its.expr first (in
 abbrev pub expr_parts : {N S F C E L A B T : Type 0} → Children N S F C E L A B T → Expr-F N S F C E L A B T → Walk
 expr_parts in_its e context = in_its.node e.node context
 
+-- an operator and the part after it: what stands in that part
 abbrev pub link_parts : {N S F C E L A B T : Type 0} → Children N S F C E L A B T → Link-F N S F C E L A B T → Walk
 link_parts in_its l context = in_its.expr l.part context
 
@@ -106,6 +108,7 @@ call_parts in_its c context =
 abbrev pub block_parts : {N S F C E L A B T : Type 0} → Children N S F C E L A B T → Block-F N S F C E L A B T → Walk
 block_parts in_its b context = each in_its.stmt b.stmts context
 
+-- a statement: what stands in its form, on its line
 abbrev pub stmt_parts : {N S F C E L A B T : Type 0} → Children N S F C E L A B T → Stmt-F N S F C E L A B T → Walk
 stmt_parts in_its s context = in_its.form s.form (at_line s.line context)
 
@@ -120,22 +123,20 @@ simple_parts in_its (Simple-F.Iff arms other) context = each in_its.arm arms (in
 simple_parts in_its (Simple-F.Assign name op value) context = in_its.expr value (inside context)
 simple_parts in_its (Simple-F.Value value) context = in_its.expr value context
 
+-- a branch: its condition, and then its statements
 abbrev pub arm_parts : {N S F C E L A B T : Type 0} → Children N S F C E L A B T → Arm-F N S F C E L A B T → Walk
 arm_parts in_its a context = in_its.expr a.cond context ++ each in_its.stmt a.stmts context
 
--- The recursion over a tree goes by the layers above. (It gives a record, since it asks for a type above the data.)
+-- The recursion over a tree goes by the layers above. What it holds of each tree is the parts in it, in a record: the kit's recursion asks for a type above that of the data.
 pub record Held : Type 1 where
   pub parts : Walk
 
--- a type of layers, by the types of the children
-abbrev pub Layers : Type 1
-Layers = Type 0 → Type 0 → Type 0 → Type 0 → Type 0 → Type 0 → Type 0 → Type 0 → Type 0 → Type 0
-
--- one step of the recursion
+-- one step of the recursion: of a layer, whose children stand for trees and hold their parts, what it holds itself
 abbrev pub Step : Layers → Type 1
 Step F = (N S G C E L A B T : Type 0) → (N → Node) → (S → Simple) → (G → StmtForm) → (C → Call) → (E → Expr) → (L → Link) → (A → Arm) → (B → Block) → (T → Stmt) →
     (N → Held) → (S → Held) → (G → Held) → (C → Held) → (E → Held) → (L → Held) → (A → Held) → (B → Held) → (T → Held) → F N S G C E L A B T → Held
 
+-- the step that takes the parts of a layer from those of its children
 abbrev pub by : {F : Layers} → ((N S G C E L A B T : Type 0) → Children N S G C E L A B T → F N S G C E L A B T → Walk) → Step F
 by parts N S G C E L A B T node_of simple_of form_of call_of expr_of link_of arm_of block_of stmt_of n s g c e l a b t x =
     record {
@@ -154,6 +155,7 @@ by parts N S G C E L A B T node_of simple_of form_of call_of expr_of link_of arm
       }) x;
     }
 
+-- the step at each type of layer
 abbrev pub node_step : Step Node-F
 node_step = by (λ N S G C E L A B T. node_parts)
 
@@ -181,6 +183,7 @@ block_step = by (λ N S G C E L A B T. block_parts)
 abbrev pub stmt_step : Step Stmt-F
 stmt_step = by (λ N S G C E L A B T. stmt_parts)
 
+-- The calls and the blocks in a tree of each type, in the order of their tokens, by the context in which the tree stands. They obey the layers above: the parts in a node are `node_parts` of its layer, and so on.
 unfoldable pub in_node : Node → Walk
 in_node x = (rec-Node Held Held Held Held Held Held Held Held Held node_step simple_step form_step call_step expr_step link_step arm_step block_step stmt_step x).parts
 

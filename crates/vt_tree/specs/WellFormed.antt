@@ -19,6 +19,7 @@ use Rattle.vt_tree.specs.declared.statement.StmtForm.{StmtForm}
 use Rattle.vt_frac.specs.Names.{IsName, is_label_name}
 use Rattle.vt_tree.specs.Forms.{IsLiteral}
 use Rattle.vt_tree.specs.Parts.{blocks}
+use Rattle.vt_tree.specs.Layers.{OfTrees}
 
 -- the operators of each kind of chain
 abbrev pub is_op_of : ChainKind → ChainOp → Bool
@@ -49,8 +50,8 @@ pub record AreLinks (kind : ChainKind) (links : List Link) : Type 0 where
   pub count : IsLinkCount kind (length links)
   pub ops : All (λ link. IsTrue (is_op_of kind (out-Link link).op)) links
 
--- One layer of each type, whose children are trees.
-abbrev pub GoodNode : Node-F Node Simple StmtForm Call Expr Link Arm Block Stmt → Type 0
+-- What is asked of one layer of each type, beside its children: of a node the form of its literal, its name or its links
+abbrev pub GoodNode : OfTrees Node-F → Type 0
 GoodNode (Node-F.Literal value) = IsLiteral value
 GoodNode (Node-F.Name name) = IsName name
 GoodNode (Node-F.Call call) = Unit {0}
@@ -61,33 +62,34 @@ GoodNode (Node-F.Unary op of) = Unit {0}
 GoodNode (Node-F.Chain kind first rest) = AreLinks kind rest
 
 -- an `if` or `unless` has a branch with a condition
-abbrev pub GoodSimple : Simple-F Node Simple StmtForm Call Expr Link Arm Block Stmt → Type 0
+abbrev pub GoodSimple : OfTrees Simple-F → Type 0
 GoodSimple (Simple-F.Iff arms other) = 0 < length arms
 GoodSimple (Simple-F.Assign name op value) = IsName name
 GoodSimple (Simple-F.Value value) = Unit {0}
 
 -- the names of a call and of its options
-pub record GoodCall (call : Call-F Node Simple StmtForm Call Expr Link Arm Block Stmt) : Type 0 where
+pub record GoodCall (call : OfTrees Call-F) : Type 0 where
   pub name : IsName call.name
   pub labels : All (λ option. IsTrue (is_label_name option.0)) call.options
 
-abbrev pub GoodBlock : Block-F Node Simple StmtForm Call Expr Link Arm Block Stmt → Type 0
+-- the names of a block's parameters
+abbrev pub GoodBlock : OfTrees Block-F → Type 0
 GoodBlock block = All IsName block.params
 
 -- of the other types nothing is asked beyond their children
-abbrev pub GoodForm : StmtForm-F Node Simple StmtForm Call Expr Link Arm Block Stmt → Type 0
+abbrev pub GoodForm : OfTrees StmtForm-F → Type 0
 GoodForm form = Unit {0}
 
-abbrev pub GoodExpr : Expr-F Node Simple StmtForm Call Expr Link Arm Block Stmt → Type 0
+abbrev pub GoodExpr : OfTrees Expr-F → Type 0
 GoodExpr expr = Unit {0}
 
-abbrev pub GoodLink : Link-F Node Simple StmtForm Call Expr Link Arm Block Stmt → Type 0
+abbrev pub GoodLink : OfTrees Link-F → Type 0
 GoodLink link = Unit {0}
 
-abbrev pub GoodArm : Arm-F Node Simple StmtForm Call Expr Link Arm Block Stmt → Type 0
+abbrev pub GoodArm : OfTrees Arm-F → Type 0
 GoodArm arm = Unit {0}
 
-abbrev pub GoodStmt : Stmt-F Node Simple StmtForm Call Expr Link Arm Block Stmt → Type 0
+abbrev pub GoodStmt : OfTrees Stmt-F → Type 0
 GoodStmt stmt = Unit {0}
 
 -- A tree of which this holds in each of its layers: each chain has its links and only the operators of its kind, each `if` a

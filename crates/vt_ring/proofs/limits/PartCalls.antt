@@ -14,7 +14,7 @@ use Rattle.vt_ring.specs.CountCalls.{added_up, are_numbers, count_call, count_of
 use Rattle.vt_ring.specs.Items.{wrapped}
 use Rattle.vt_ring.specs.Limits.{within_limits}
 use Rattle.vt_ring.specs.PartCalls.{butlast_call, drop_call, drop_last_call, drop_last_of, first_call, last_call, mirror_call, reflect_call, repeat_call, reverse_call, rotate_call, stretch_call, take_call, take_last_call, take_last_of}
-use Rattle.vt_ring.specs.Parts.{drop_of, take_of}
+use Rattle.vt_ring.specs.TakeAndDrop.{drop_of, take_of}
 use Rattle.vt_ring.specs.Repeating.{repeat_of, repeated, stretch_of, stretched}
 use Rattle.vt_ring.specs.Signatures.{a_ring, a_ring_and_a_whole, a_ring_and_perhaps_a_whole}
 use Rattle.vt_ring.specs.Turning.{mirror_of, moved_indices, reflect_of, reverse_of, rotate_of, turned}

@@ -17,6 +17,7 @@ use Rattle.vt_tree.specs.declared.expression.Node.TheFolds.{every-Block}
 use Rattle.vt_tree.specs.Parts.{Part, called, opened, Context, Site, Walk, after_dot, at_line, blocks, blocks_of, children, each, if_there, whole_block, in_arm, in_block, in_call, in_expr, in_form, in_link, in_node, in_simple, in_stmt, in_text, inside, node_parts, simple_parts, form_parts, call_parts, expr_parts, link_parts, arm_parts, block_parts, stmt_parts}
 use Rattle.vt_tree.specs.WellFormed.{GoodNode, GoodSimple, GoodForm, GoodCall, GoodExpr, GoodLink, GoodArm, GoodBlock, GoodStmt, IsFormedBlock, IsNumbered}
 use Rattle.vt_tree.proofs.PartsLemmas.{in_node-out, in_simple-out, in_form-out, in_call-out, in_expr-out, in_link-out, in_arm-out, in_block-out, in_stmt-out}
+use Rattle.vt_tree.specs.Layers.{OfTrees}
 use Rattle.vt_check.specs.Checked.{block_at}
 use Rattle.vt_event.specs.declared.references.BlockRef.{BlockRef}
 use Rattle.vt_run.specs.declared.texts.Texts.{Texts}
@@ -30,7 +31,7 @@ abbrev pub IsThere : Texts → ℕ → ℕ → Type 0
 IsThere texts text number = IsTrue (is_some (block_of texts (record { text = text; block = number })))
 
 -- one layer of a block of this text: its parameters have the form of a name, and the block is found by its number
-abbrev pub FitBlock : Texts → ℕ → Block-F Node Simple StmtForm Call Expr Link Arm Block Stmt → Type 0
+abbrev pub FitBlock : Texts → ℕ → OfTrees Block-F → Type 0
 FitBlock texts text block = All IsName block.params × IsThere texts text block.number
 
 -- a block of this text, with all that stands in it
@@ -161,7 +162,7 @@ module _ (texts : Texts) (text : ℕ) where
     stmt = λ x. Fits texts text (fit.stmt x) (in_stmt x);
   }
 
-  node_fits : (x : Node-F Node Simple StmtForm Call Expr Link Arm Block Stmt) → AllNode fitting x → Fits texts text (AllNode fit x) (node_parts children x)
+  node_fits : (x : OfTrees Node-F) → AllNode fitting x → Fits texts text (AllNode fit x) (node_parts children x)
   node_fits (Node-F.Literal value) h = no_parts
   node_fits (Node-F.Name name) h = no_parts
   node_fits (Node-F.Call call) h = after_call (λ p. record { context = p; call = call }) h
@@ -171,35 +172,35 @@ module _ (texts : Texts) (text : ℕ) where
   node_fits (Node-F.Unary op of) h = moved inside h
   node_fits (Node-F.Chain kind first rest) h = both (moved inside h.0) (moved inside (each_fits fit.link in_link rest h.1))
 
-  simple_fits : (x : Simple-F Node Simple StmtForm Call Expr Link Arm Block Stmt) → AllSimple fitting x → Fits texts text (AllSimple fit x) (simple_parts children x)
+  simple_fits : (x : OfTrees Simple-F) → AllSimple fitting x → Fits texts text (AllSimple fit x) (simple_parts children x)
   simple_fits (Simple-F.Iff arms other) h = both (moved inside (each_fits fit.arm in_arm arms h.0)) (moved inside (statements_fit other h.1))
   simple_fits (Simple-F.Assign name op value) h = moved inside h
   simple_fits (Simple-F.Value value) h = h
 
-  form_fits : (x : StmtForm-F Node Simple StmtForm Call Expr Link Arm Block Stmt) → AllStmtForm fitting x → Fits texts text (AllStmtForm fit x) (form_parts children x)
+  form_fits : (x : OfTrees StmtForm-F) → AllStmtForm fitting x → Fits texts text (AllStmtForm fit x) (form_parts children x)
   form_fits (StmtForm-F.Plain simple) h = h
   form_fits (StmtForm-F.Guarded simple unless cond) h = both h.0 (moved inside h.1)
 
-  call_fits : (x : Call-F Node Simple StmtForm Call Expr Link Arm Block Stmt) → AllCall fitting x → Fits texts text (AllCall fit x) (call_parts children x)
+  call_fits : (x : OfTrees Call-F) → AllCall fitting x → Fits texts text (AllCall fit x) (call_parts children x)
   call_fits x h =
       let args = moved inside (each_fits fit.expr in_expr x.args h.0) in
       let options = moved inside (each_fits (λ (o : List ℕ × Expr). fit.expr o.1) (λ (o : List ℕ × Expr). in_expr o.1) x.options h.1) in
       let block = moved inside (option_fits fit.block (whole_block children) x.block h.2) in
       turned (λ facts. (facts.0, facts.1.0, facts.1.1)) (both args (both options block))
 
-  expr_fits : (x : Expr-F Node Simple StmtForm Call Expr Link Arm Block Stmt) → AllExpr fitting x → Fits texts text (AllExpr fit x) (expr_parts children x)
+  expr_fits : (x : OfTrees Expr-F) → AllExpr fitting x → Fits texts text (AllExpr fit x) (expr_parts children x)
   expr_fits x h = h
 
-  link_fits : (x : Link-F Node Simple StmtForm Call Expr Link Arm Block Stmt) → AllLink fitting x → Fits texts text (AllLink fit x) (link_parts children x)
+  link_fits : (x : OfTrees Link-F) → AllLink fitting x → Fits texts text (AllLink fit x) (link_parts children x)
   link_fits x h = h
 
-  arm_fits : (x : Arm-F Node Simple StmtForm Call Expr Link Arm Block Stmt) → AllArm fitting x → Fits texts text (AllArm fit x) (arm_parts children x)
+  arm_fits : (x : OfTrees Arm-F) → AllArm fitting x → Fits texts text (AllArm fit x) (arm_parts children x)
   arm_fits x h = both h.0 (each_fits fit.stmt in_stmt x.stmts h.1)
 
-  block_fits : (x : Block-F Node Simple StmtForm Call Expr Link Arm Block Stmt) → AllBlock fitting x → Fits texts text (AllBlock fit x) (block_parts children x)
+  block_fits : (x : OfTrees Block-F) → AllBlock fitting x → Fits texts text (AllBlock fit x) (block_parts children x)
   block_fits x h = each_fits fit.stmt in_stmt x.stmts h
 
-  stmt_fits : (x : Stmt-F Node Simple StmtForm Call Expr Link Arm Block Stmt) → AllStmt fitting x → Fits texts text (AllStmt fit x) (stmt_parts children x)
+  stmt_fits : (x : OfTrees Stmt-F) → AllStmt fitting x → Fits texts text (AllStmt fit x) (stmt_parts children x)
   stmt_fits x h = moved (at_line x.line) h
 
   -- one step of the induction for each type

@@ -1,24 +1,22 @@
 -- Events of each kind are well made.
 use Rattle.std.proofs.Common.{◌≡◌, ◌≢◌, ◌<◌, ℕ, List, [], ◌∷◌, Option, Some, None, inl, inr, refl, sym, ap, subst, ◌∙◌, true≢false, arith}
 use Rattle.std.specs.Prelude.{IsTrue, ◌^◌, codes, pos}
-use Rattle.std.proofs.lemmas.Bool.{lt-ltb}
 use Rattle.vt_frac.specs.Fraction.{IsFraction}
 use Rattle.vt_path.specs.declared.inner_path.InnerKind.{InnerKind}
 use Rattle.vt_path.specs.declared.inner_path.InnerKind.TheVariants.{Body as BodyPath, Def as DefPath, Named as NamedPath, Looped as LoopedPath, Stop as StopPath}
 use Rattle.vt_path.specs.Inner.{IsInner, inner_of}
 use Rattle.vt_value.specs.declared.fault.FaultKind.{FaultKind}
-use Rattle.vt_value.specs.declared.value.Value.{Value, out-Value, out-roll-Value}
-use Rattle.vt_value.specs.declared.value.Value.TheOpen.{Value-F}
-use Rattle.vt_value.specs.declared.value.Value.TheVariants.{Nil, Ring, Whole, rolls-Nil, rolls-Whole}
-use Rattle.vt_value.specs.Kinds.{is_nil, nil_layer, whole_layer}
+use Rattle.vt_value.specs.declared.value.Value.{Value}
+use Rattle.vt_value.specs.declared.value.Value.TheVariants.{Ring}
 use Rattle.vt_value.specs.Limits.{IsWithin}
 use Rattle.vt_frac.specs.Names.{is_symbol_name}
 use Rattle.vt_event.specs.declared.place.Place.{Place}
 use Rattle.vt_event.specs.declared.references.BlockRef.{BlockRef}
 use Rattle.vt_event.specs.declared.references.FxId.{FxId}
 use Rattle.vt_event.specs.EventsByKind.{body_event, cue_event, defined_event, ended_event, fault_event, fx_event, log_event, play_event, sample_event, set_event, started_event, synth_event, took_event}
-use Rattle.vt_event.specs.Kinds.{is_count, is_effect_number, is_note, is_sample_name}
+use Rattle.vt_event.specs.Kinds.{is_note, is_sample_name}
 use Rattle.vt_event.specs.Pairs.{Pairs}
+use Rattle.vt_event.proofs.EventFields.{body_fields, cue_fields, defined_fields, ended_fields, fault_fields, fx_fields, log_fields, play_fields, sample_fields, set_fields, started_fields, synth_fields, took_fields}
 use Rattle.vt_run.specs.declared.role.Role.{Role}
 use Rattle.vt_run.specs.declared.role.Role.TheVariants.{Plain, Named, Looped, Timed}
 use Rattle.vt_run.specs.Actions.{name_path}
@@ -27,14 +25,6 @@ use Rattle.vt_run.specs.WellMade.{IsWellMade}
 use Rattle.vt_run.proofs.facts.Known.{IsTold}
 use Rattle.vt_run.proofs.facts.NameFacts.{live_loop_segment, named_path, word_outside}
 use Rattle.vt_ring.proofs.limits.Values.{within_nil, within_ring, within_whole}
-
-nil_is : IsTrue (is_nil Nil)
-nil_is = ap (λ (layer : Value-F Value). nil_layer layer) (sym (ap out-Value rolls-Nil) ∙ out-roll-Value Value-F.Nil)
-
-number_is : (number : ℕ) → number < 2 ^ 32 → IsTrue (is_effect_number (Whole (pos number)))
-number_is number small =
-    ap (λ (layer : Value-F Value). is_count (whole_layer layer)) (sym (ap out-Value (rolls-Whole (pos number))) ∙ out-roll-Value (Value-F.Whole (pos number)))
-    ∙ lt-ltb number (2 ^ 32) small
 
 some_same : {X : Type 0} {x y : X} → Some x ≡ Some y → x ≡ y
 some_same e = cc
@@ -46,15 +36,7 @@ pub fault_told : (L : Type 0) (kind : FaultKind) (line : ℕ) (place : Place) �
 fault_told L kind line place time = record {
   placed = refl;
   made = record {
-    fields = record {
-      path_with_kind = refl;
-      no_name = λ e. refl;
-      value_with_kind = nil_is;
-      no_options = λ e. refl;
-      no_fx = λ e. refl;
-      body_with_kind = refl;
-      no_line = λ e. absurd (true≢false e);
-    };
+    fields = fault_fields place kind line;
     outside = λ w. absurd (true≢false (sym w));
     unstopped = λ k name e. no_some e;
   };
@@ -65,15 +47,7 @@ pub ended_told : (L : Type 0) (path : List (List ℕ)) (place : Place) → ((nam
 ended_told L path place clear inner time = record {
   placed = refl;
   made = record {
-    fields = record {
-      path_with_kind = refl;
-      no_name = λ e. refl;
-      value_with_kind = nil_is;
-      no_options = λ e. refl;
-      no_fx = λ e. refl;
-      body_with_kind = refl;
-      no_line = λ e. refl;
-    };
+    fields = ended_fields place path;
     outside = λ w. absurd (true≢false (sym w));
     unstopped = λ k name e. clear name (some_same e);
   };
@@ -84,15 +58,7 @@ pub started_told : (L : Type 0) (path : List (List ℕ)) (place : Place) → ((n
 started_told L path place clear inner time = record {
   placed = refl;
   made = record {
-    fields = record {
-      path_with_kind = refl;
-      no_name = λ e. refl;
-      value_with_kind = nil_is;
-      no_options = λ e. refl;
-      no_fx = λ e. refl;
-      body_with_kind = refl;
-      no_line = λ e. refl;
-    };
+    fields = started_fields place path;
     outside = λ w. absurd (true≢false (sym w));
     unstopped = λ k name e. clear name (some_same e);
   };
@@ -104,15 +70,7 @@ pub body_told : (L : Type 0) (path : List (List ℕ)) (block : BlockRef) (locals
 body_told L path block locals line place clear inner pairs time = record {
   placed = refl;
   made = record {
-    fields = record {
-      path_with_kind = refl;
-      no_name = λ e. refl;
-      value_with_kind = nil_is;
-      no_options = λ e. refl;
-      no_fx = λ e. refl;
-      body_with_kind = refl;
-      no_line = λ e. absurd (true≢false e);
-    };
+    fields = body_fields place path block locals line;
     outside = λ w. absurd (true≢false (sym w));
     unstopped = λ k name e. clear name (some_same e);
   };
@@ -124,15 +82,7 @@ pub defined_told : (L : Type 0) (path : List (List ℕ)) (block : BlockRef) (loc
 defined_told L path block locals place clear inner pairs time = record {
   placed = refl;
   made = record {
-    fields = record {
-      path_with_kind = refl;
-      no_name = λ e. refl;
-      value_with_kind = nil_is;
-      no_options = λ e. refl;
-      no_fx = λ e. refl;
-      body_with_kind = refl;
-      no_line = λ e. refl;
-    };
+    fields = defined_fields place path block locals;
     outside = λ w. absurd (true≢false (sym w));
     unstopped = λ k name e. clear name (some_same e);
   };
@@ -144,15 +94,7 @@ pub took_told : (L : Type 0) (path : List (List ℕ)) (value : Value) (place : P
 took_told L path value place good held time = record {
   placed = refl;
   made = record {
-    fields = record {
-      path_with_kind = refl;
-      no_name = λ e. refl;
-      value_with_kind = refl;
-      no_options = λ e. refl;
-      no_fx = λ e. refl;
-      body_with_kind = refl;
-      no_line = λ e. refl;
-    };
+    fields = took_fields place path value;
     outside = λ w. absurd (true≢false (sym w));
     unstopped = λ k. absurd (k refl);
   };
@@ -164,15 +106,7 @@ pub cue_told : (L : Type 0) (path : List (List ℕ)) (value : Value) (place : Pl
 cue_told L path value place good held time other = record {
   placed = refl;
   made = record {
-    fields = record {
-      path_with_kind = refl;
-      no_name = λ e. refl;
-      value_with_kind = refl;
-      no_options = λ e. refl;
-      no_fx = λ e. refl;
-      body_with_kind = refl;
-      no_line = λ e. refl;
-    };
+    fields = cue_fields place path value;
     outside = λ w kind name e. other kind name (some_same e);
     unstopped = λ k name e. other StopPath name (some_same e);
   };
@@ -190,15 +124,7 @@ pub set_told : (L : Type 0) (path : List (List ℕ)) (value : Value) (place : Pl
 set_told L path value place good held time other = record {
   placed = refl;
   made = record {
-    fields = record {
-      path_with_kind = refl;
-      no_name = λ e. refl;
-      value_with_kind = refl;
-      no_options = λ e. refl;
-      no_fx = λ e. refl;
-      body_with_kind = refl;
-      no_line = λ e. refl;
-    };
+    fields = set_fields place path value;
     outside = λ w kind name e. other kind name (some_same e);
     unstopped = λ k name e. other StopPath name (some_same e);
   };
@@ -209,15 +135,7 @@ pub log_told : (L : Type 0) (value : Value) (place : Place) → (L → IsWithin 
 log_told L value place held time = record {
   placed = refl;
   made = record {
-    fields = record {
-      path_with_kind = refl;
-      no_name = λ e. refl;
-      value_with_kind = refl;
-      no_options = λ e. refl;
-      no_fx = λ e. refl;
-      body_with_kind = refl;
-      no_line = λ e. refl;
-    };
+    fields = log_fields place value;
     outside = λ w. absurd (true≢false (sym w));
     unstopped = λ k name e. no_some e;
   };
@@ -230,15 +148,7 @@ pub play_told : (L : Type 0) (synth : List ℕ) (note : Value) (options : Pairs)
 play_told L synth note options fx place number symbol held pairs time = record {
   placed = refl;
   made = record {
-    fields = record {
-      path_with_kind = refl;
-      no_name = λ e. absurd (true≢false e);
-      value_with_kind = number;
-      no_options = λ e. absurd (true≢false e);
-      no_fx = λ e. absurd (true≢false e);
-      body_with_kind = refl;
-      no_line = λ e. refl;
-    };
+    fields = play_fields place synth note options fx number;
     outside = λ w. absurd (true≢false (sym w));
     unstopped = λ k name e. no_some e;
   };
@@ -250,15 +160,7 @@ pub synth_told : (L : Type 0) (name : List ℕ) (options : Pairs) (fx : Option F
 synth_told L name options fx place symbol pairs time = record {
   placed = refl;
   made = record {
-    fields = record {
-      path_with_kind = refl;
-      no_name = λ e. absurd (true≢false e);
-      value_with_kind = nil_is;
-      no_options = λ e. absurd (true≢false e);
-      no_fx = λ e. absurd (true≢false e);
-      body_with_kind = refl;
-      no_line = λ e. refl;
-    };
+    fields = synth_fields place name options fx;
     outside = λ w. absurd (true≢false (sym w));
     unstopped = λ k name e. no_some e;
   };
@@ -270,15 +172,7 @@ pub sample_told : (L : Type 0) (sample : Value) (options : Pairs) (fx : Option F
 sample_told L sample options fx place named held pairs time = record {
   placed = refl;
   made = record {
-    fields = record {
-      path_with_kind = refl;
-      no_name = λ e. refl;
-      value_with_kind = named;
-      no_options = λ e. absurd (true≢false e);
-      no_fx = λ e. absurd (true≢false e);
-      body_with_kind = refl;
-      no_line = λ e. refl;
-    };
+    fields = sample_fields place sample options fx named;
     outside = λ w. absurd (true≢false (sym w));
     unstopped = λ k name e. no_some e;
   };
@@ -288,15 +182,7 @@ sample_told L sample options fx place named held pairs time = record {
 -- an effect, whose number is one of 32 bits
 pub fx_made : (place : Place) (name : List ℕ) (number : ℕ) (options : Pairs) (fx : Option FxId) → number < 2 ^ 32 → IsWellMade (fx_event place name number options fx)
 fx_made place name number options fx small = record {
-  fields = record {
-    path_with_kind = refl;
-    no_name = λ e. absurd (true≢false e);
-    value_with_kind = number_is number small;
-    no_options = λ e. absurd (true≢false e);
-    no_fx = λ e. absurd (true≢false e);
-    body_with_kind = refl;
-    no_line = λ e. refl;
-  };
+  fields = fx_fields place name number options fx small;
   outside = λ w. absurd (true≢false (sym w));
   unstopped = λ k name e. no_some e;
 }

@@ -1,5 +1,5 @@
 -- An orderly input is within the limits of the language.
-use Rattle.std.proofs.Common.{◌≡◌, ℕ, ◌+◌, zero, suc, List, [], ◌∷◌, map, Bool, true, false, Option, Some, None, IsSomeAnd, inl, inr, refl, sym, subst, ◌∙◌, true≢false, slice_get}
+use Rattle.std.proofs.Common.{◌≡◌, ℕ, ◌+◌, zero, suc, List, [], ◌∷◌, map, false, Option, Some, None, IsSomeAnd, inl, inr, refl, sym, subst, ◌∙◌, true≢false, slice_get}
 use Rattle.std.specs.Prelude.{is_some}
 use Rattle.std.specs.List.{AllByRecursion}
 use Rattle.std.proofs.lemmas.List.Elements.{recursion_from_All}

@@ -36,7 +36,7 @@ use Rattle.vt_run.specs.declared.state.State.{State}
 use Rattle.vt_run.specs.Actions.{acted, emits, is_own_stop, name_path, or_fails, reads, rests, syncs, takes, woken}
 use Rattle.vt_run.specs.calls.Arguments.{Given, a_symbol, all_args}
 use Rattle.vt_run.specs.Costs.{pair_sizes, size_if_given}
-use Rattle.vt_run.specs.Environment.{Body, Env, Meaning}
+use Rattle.vt_run.specs.Environment.{Body, Env}
 use Rattle.vt_run.specs.calls.EffectTable.{calls_name, computed, performed}
 use Rattle.vt_run.specs.calls.FunctionCalls.{FoundBody, body_found, calls_found, define_call, found_at, found_with, function_call, runs_found, takes_given}
 use Rattle.vt_run.specs.Limits.{ArePairsWithin, AreSettingsWithin, IsAnswerWithin, IsBodyWithin, IsEventWithin, IsPathWithin, IsPatternWithin, IsRoleWithin}

@@ -20,6 +20,7 @@ use Rattle.vt_tree.specs.declared.expression.ChainOp.{ChainOp}
 use Rattle.vt_tree.specs.declared.expression.ChainOp.TheVariants.{And, Or, Eq, Ne, Lt, Le, Gt, Ge, Add, Sub, Mul, Div, Rem}
 use Rattle.vt_tree.specs.declared.statement.AssignOp.{AssignOp}
 use Rattle.vt_tree.specs.declared.statement.AssignOp.TheVariants as assign_by
+use Rattle.vt_tree.specs.Layers.{OfTrees}
 use Rattle.vt_value.specs.declared.arithmetic.ArithOp.TheVariants as arith_op
 use Rattle.vt_value.specs.declared.comparison.OrderOp.{OrderOp}
 use Rattle.vt_value.specs.declared.comparison.OrderOp.TheVariants as order
@@ -97,31 +98,31 @@ abbrev pub stmt_m : Stmt → Meaning
 stmt_m = by_layers (at_meanings fold-Stmt)
 
 -- a layer of the tree as a layer of meanings
-abbrev node_of : Node-F Node Simple StmtForm Call Expr Link Arm Block Stmt → OfMeanings Node-F
+abbrev node_of : OfTrees Node-F → OfMeanings Node-F
 node_of = at_meanings (map-Node Node Simple StmtForm Call Expr Link Arm Block Stmt) node_m simple_m form_m call_m expr_m link_m arm_m block_m stmt_m
 
-abbrev simple_of : Simple-F Node Simple StmtForm Call Expr Link Arm Block Stmt → OfMeanings Simple-F
+abbrev simple_of : OfTrees Simple-F → OfMeanings Simple-F
 simple_of = at_meanings (map-Simple Node Simple StmtForm Call Expr Link Arm Block Stmt) node_m simple_m form_m call_m expr_m link_m arm_m block_m stmt_m
 
-abbrev form_of : StmtForm-F Node Simple StmtForm Call Expr Link Arm Block Stmt → OfMeanings StmtForm-F
+abbrev form_of : OfTrees StmtForm-F → OfMeanings StmtForm-F
 form_of = at_meanings (map-StmtForm Node Simple StmtForm Call Expr Link Arm Block Stmt) node_m simple_m form_m call_m expr_m link_m arm_m block_m stmt_m
 
-abbrev call_of : Call-F Node Simple StmtForm Call Expr Link Arm Block Stmt → OfMeanings Call-F
+abbrev call_of : OfTrees Call-F → OfMeanings Call-F
 call_of = at_meanings (map-Call Node Simple StmtForm Call Expr Link Arm Block Stmt) node_m simple_m form_m call_m expr_m link_m arm_m block_m stmt_m
 
-abbrev expr_of : Expr-F Node Simple StmtForm Call Expr Link Arm Block Stmt → OfMeanings Expr-F
+abbrev expr_of : OfTrees Expr-F → OfMeanings Expr-F
 expr_of = at_meanings (map-Expr Node Simple StmtForm Call Expr Link Arm Block Stmt) node_m simple_m form_m call_m expr_m link_m arm_m block_m stmt_m
 
-abbrev link_of : Link-F Node Simple StmtForm Call Expr Link Arm Block Stmt → OfMeanings Link-F
+abbrev link_of : OfTrees Link-F → OfMeanings Link-F
 link_of = at_meanings (map-Link Node Simple StmtForm Call Expr Link Arm Block Stmt) node_m simple_m form_m call_m expr_m link_m arm_m block_m stmt_m
 
-abbrev arm_of : Arm-F Node Simple StmtForm Call Expr Link Arm Block Stmt → OfMeanings Arm-F
+abbrev arm_of : OfTrees Arm-F → OfMeanings Arm-F
 arm_of = at_meanings (map-Arm Node Simple StmtForm Call Expr Link Arm Block Stmt) node_m simple_m form_m call_m expr_m link_m arm_m block_m stmt_m
 
-abbrev block_of : Block-F Node Simple StmtForm Call Expr Link Arm Block Stmt → OfMeanings Block-F
+abbrev block_of : OfTrees Block-F → OfMeanings Block-F
 block_of = at_meanings (map-Block Node Simple StmtForm Call Expr Link Arm Block Stmt) node_m simple_m form_m call_m expr_m link_m arm_m block_m stmt_m
 
-abbrev stmt_of : Stmt-F Node Simple StmtForm Call Expr Link Arm Block Stmt → OfMeanings Stmt-F
+abbrev stmt_of : OfTrees Stmt-F → OfMeanings Stmt-F
 stmt_of = at_meanings (map-Stmt Node Simple StmtForm Call Expr Link Arm Block Stmt) node_m simple_m form_m call_m expr_m link_m arm_m block_m stmt_m
 
 -- each meaning is made by its layer

@@ -12,6 +12,7 @@ use Rattle.vt_tree.specs.declared.statement.Block.{Block, out-Block, roll-Block,
 use Rattle.vt_tree.specs.declared.statement.Stmt.{Stmt, out-Stmt, roll-Stmt, out-roll-Stmt, roll-out-Stmt, map-Stmt}
 use Rattle.vt_tree.specs.declared.expression.Node.TheOpen.{Node-F, Simple-F, StmtForm-F, Call-F, Expr-F, Link-F, Arm-F, Block-F, Stmt-F}
 use Rattle.vt_tree.specs.declared.expression.Node.TheFolds.{every-Node, every-Simple, every-StmtForm, every-Call, every-Expr, every-Link, every-Arm, every-Block, every-Stmt, every_here-Node, every_here-Simple, every_here-StmtForm, every_here-Call, every_here-Expr, every_here-Link, every_here-Arm, every_here-Block, every_here-Stmt, every_held-Node, every_held-Simple, every_held-StmtForm, every_held-Call, every_held-Expr, every_held-Link, every_held-Arm, every_held-Block, every_held-Stmt, every_made-Node, every_made-Simple, every_made-StmtForm, every_made-Call, every_made-Expr, every_made-Link, every_made-Arm, every_made-Block, every_made-Stmt, ind-Block}
+use Rattle.vt_tree.specs.Layers.{OfTrees}
 
 -- a statement about each type of a tree
 pub record Predicates : Type 1 where
@@ -27,15 +28,15 @@ pub record Predicates : Type 1 where
 
 -- a statement about one layer of each type, whose children are trees
 pub record LayerPredicates : Type 1 where
-  pub node : Node-F Node Simple StmtForm Call Expr Link Arm Block Stmt → Type 0
-  pub simple : Simple-F Node Simple StmtForm Call Expr Link Arm Block Stmt → Type 0
-  pub form : StmtForm-F Node Simple StmtForm Call Expr Link Arm Block Stmt → Type 0
-  pub call : Call-F Node Simple StmtForm Call Expr Link Arm Block Stmt → Type 0
-  pub expr : Expr-F Node Simple StmtForm Call Expr Link Arm Block Stmt → Type 0
-  pub link : Link-F Node Simple StmtForm Call Expr Link Arm Block Stmt → Type 0
-  pub arm : Arm-F Node Simple StmtForm Call Expr Link Arm Block Stmt → Type 0
-  pub block : Block-F Node Simple StmtForm Call Expr Link Arm Block Stmt → Type 0
-  pub stmt : Stmt-F Node Simple StmtForm Call Expr Link Arm Block Stmt → Type 0
+  pub node : OfTrees Node-F → Type 0
+  pub simple : OfTrees Simple-F → Type 0
+  pub form : OfTrees StmtForm-F → Type 0
+  pub call : OfTrees Call-F → Type 0
+  pub expr : OfTrees Expr-F → Type 0
+  pub link : OfTrees Link-F → Type 0
+  pub arm : OfTrees Arm-F → Type 0
+  pub block : OfTrees Block-F → Type 0
+  pub stmt : OfTrees Stmt-F → Type 0
 
 -- that it holds in each layer of a tree
 abbrev pub every_layer : LayerPredicates → Predicates
@@ -74,10 +75,10 @@ With F = (x : _) × F x
 abbrev pub HeldNode : Predicates → Type 0
 HeldNode F = Node-F (With F.node) (With F.simple) (With F.form) (With F.call) (With F.expr) (With F.link) (With F.arm) (With F.block) (With F.stmt)
 
-abbrev pub bare_node : (F : Predicates) → HeldNode F → Node-F Node Simple StmtForm Call Expr Link Arm Block Stmt
+abbrev pub bare_node : (F : Predicates) → HeldNode F → OfTrees Node-F
 bare_node F = map-Node (With F.node) (With F.simple) (With F.form) (With F.call) (With F.expr) (With F.link) (With F.arm) (With F.block) (With F.stmt) Node Simple StmtForm Call Expr Link Arm Block Stmt (λ z. z.0) (λ z. z.0) (λ z. z.0) (λ z. z.0) (λ z. z.0) (λ z. z.0) (λ z. z.0) (λ z. z.0) (λ z. z.0)
 
-abbrev pub AllNode : Predicates → Node-F Node Simple StmtForm Call Expr Link Arm Block Stmt → Type 0
+abbrev pub AllNode : Predicates → OfTrees Node-F → Type 0
 AllNode F (Node-F.Literal value) = Unit {0}
 AllNode F (Node-F.Name name) = Unit {0}
 AllNode F (Node-F.Call call) = F.call call
@@ -90,10 +91,10 @@ AllNode F (Node-F.Chain kind first rest) = F.expr first × AllByRecursion F.link
 abbrev pub HeldSimple : Predicates → Type 0
 HeldSimple F = Simple-F (With F.node) (With F.simple) (With F.form) (With F.call) (With F.expr) (With F.link) (With F.arm) (With F.block) (With F.stmt)
 
-abbrev pub bare_simple : (F : Predicates) → HeldSimple F → Simple-F Node Simple StmtForm Call Expr Link Arm Block Stmt
+abbrev pub bare_simple : (F : Predicates) → HeldSimple F → OfTrees Simple-F
 bare_simple F = map-Simple (With F.node) (With F.simple) (With F.form) (With F.call) (With F.expr) (With F.link) (With F.arm) (With F.block) (With F.stmt) Node Simple StmtForm Call Expr Link Arm Block Stmt (λ z. z.0) (λ z. z.0) (λ z. z.0) (λ z. z.0) (λ z. z.0) (λ z. z.0) (λ z. z.0) (λ z. z.0) (λ z. z.0)
 
-abbrev pub AllSimple : Predicates → Simple-F Node Simple StmtForm Call Expr Link Arm Block Stmt → Type 0
+abbrev pub AllSimple : Predicates → OfTrees Simple-F → Type 0
 AllSimple F (Simple-F.Iff arms other) = AllByRecursion F.arm arms × IfSome other (AllByRecursion F.stmt)
 AllSimple F (Simple-F.Assign name op value) = F.expr value
 AllSimple F (Simple-F.Value value) = F.expr value
@@ -101,65 +102,65 @@ AllSimple F (Simple-F.Value value) = F.expr value
 abbrev pub HeldStmtForm : Predicates → Type 0
 HeldStmtForm F = StmtForm-F (With F.node) (With F.simple) (With F.form) (With F.call) (With F.expr) (With F.link) (With F.arm) (With F.block) (With F.stmt)
 
-abbrev pub bare_form : (F : Predicates) → HeldStmtForm F → StmtForm-F Node Simple StmtForm Call Expr Link Arm Block Stmt
+abbrev pub bare_form : (F : Predicates) → HeldStmtForm F → OfTrees StmtForm-F
 bare_form F = map-StmtForm (With F.node) (With F.simple) (With F.form) (With F.call) (With F.expr) (With F.link) (With F.arm) (With F.block) (With F.stmt) Node Simple StmtForm Call Expr Link Arm Block Stmt (λ z. z.0) (λ z. z.0) (λ z. z.0) (λ z. z.0) (λ z. z.0) (λ z. z.0) (λ z. z.0) (λ z. z.0) (λ z. z.0)
 
-abbrev pub AllStmtForm : Predicates → StmtForm-F Node Simple StmtForm Call Expr Link Arm Block Stmt → Type 0
+abbrev pub AllStmtForm : Predicates → OfTrees StmtForm-F → Type 0
 AllStmtForm F (StmtForm-F.Plain simple) = F.simple simple
 AllStmtForm F (StmtForm-F.Guarded simple unless cond) = F.simple simple × F.expr cond
 
 abbrev pub HeldCall : Predicates → Type 0
 HeldCall F = Call-F (With F.node) (With F.simple) (With F.form) (With F.call) (With F.expr) (With F.link) (With F.arm) (With F.block) (With F.stmt)
 
-abbrev pub bare_call : (F : Predicates) → HeldCall F → Call-F Node Simple StmtForm Call Expr Link Arm Block Stmt
+abbrev pub bare_call : (F : Predicates) → HeldCall F → OfTrees Call-F
 bare_call F = map-Call (With F.node) (With F.simple) (With F.form) (With F.call) (With F.expr) (With F.link) (With F.arm) (With F.block) (With F.stmt) Node Simple StmtForm Call Expr Link Arm Block Stmt (λ z. z.0) (λ z. z.0) (λ z. z.0) (λ z. z.0) (λ z. z.0) (λ z. z.0) (λ z. z.0) (λ z. z.0) (λ z. z.0)
 
-abbrev pub AllCall : Predicates → Call-F Node Simple StmtForm Call Expr Link Arm Block Stmt → Type 0
+abbrev pub AllCall : Predicates → OfTrees Call-F → Type 0
 AllCall F call = AllByRecursion F.expr call.args × AllByRecursion (λ (o : List ℕ × Expr). F.expr o.1) call.options × IfSome call.block F.block
 
 abbrev pub HeldExpr : Predicates → Type 0
 HeldExpr F = Expr-F (With F.node) (With F.simple) (With F.form) (With F.call) (With F.expr) (With F.link) (With F.arm) (With F.block) (With F.stmt)
 
-abbrev pub bare_expr : (F : Predicates) → HeldExpr F → Expr-F Node Simple StmtForm Call Expr Link Arm Block Stmt
+abbrev pub bare_expr : (F : Predicates) → HeldExpr F → OfTrees Expr-F
 bare_expr F = map-Expr (With F.node) (With F.simple) (With F.form) (With F.call) (With F.expr) (With F.link) (With F.arm) (With F.block) (With F.stmt) Node Simple StmtForm Call Expr Link Arm Block Stmt (λ z. z.0) (λ z. z.0) (λ z. z.0) (λ z. z.0) (λ z. z.0) (λ z. z.0) (λ z. z.0) (λ z. z.0) (λ z. z.0)
 
-abbrev pub AllExpr : Predicates → Expr-F Node Simple StmtForm Call Expr Link Arm Block Stmt → Type 0
+abbrev pub AllExpr : Predicates → OfTrees Expr-F → Type 0
 AllExpr F expr = F.node expr.node
 
 abbrev pub HeldLink : Predicates → Type 0
 HeldLink F = Link-F (With F.node) (With F.simple) (With F.form) (With F.call) (With F.expr) (With F.link) (With F.arm) (With F.block) (With F.stmt)
 
-abbrev pub bare_link : (F : Predicates) → HeldLink F → Link-F Node Simple StmtForm Call Expr Link Arm Block Stmt
+abbrev pub bare_link : (F : Predicates) → HeldLink F → OfTrees Link-F
 bare_link F = map-Link (With F.node) (With F.simple) (With F.form) (With F.call) (With F.expr) (With F.link) (With F.arm) (With F.block) (With F.stmt) Node Simple StmtForm Call Expr Link Arm Block Stmt (λ z. z.0) (λ z. z.0) (λ z. z.0) (λ z. z.0) (λ z. z.0) (λ z. z.0) (λ z. z.0) (λ z. z.0) (λ z. z.0)
 
-abbrev pub AllLink : Predicates → Link-F Node Simple StmtForm Call Expr Link Arm Block Stmt → Type 0
+abbrev pub AllLink : Predicates → OfTrees Link-F → Type 0
 AllLink F link = F.expr link.part
 
 abbrev pub HeldArm : Predicates → Type 0
 HeldArm F = Arm-F (With F.node) (With F.simple) (With F.form) (With F.call) (With F.expr) (With F.link) (With F.arm) (With F.block) (With F.stmt)
 
-abbrev pub bare_arm : (F : Predicates) → HeldArm F → Arm-F Node Simple StmtForm Call Expr Link Arm Block Stmt
+abbrev pub bare_arm : (F : Predicates) → HeldArm F → OfTrees Arm-F
 bare_arm F = map-Arm (With F.node) (With F.simple) (With F.form) (With F.call) (With F.expr) (With F.link) (With F.arm) (With F.block) (With F.stmt) Node Simple StmtForm Call Expr Link Arm Block Stmt (λ z. z.0) (λ z. z.0) (λ z. z.0) (λ z. z.0) (λ z. z.0) (λ z. z.0) (λ z. z.0) (λ z. z.0) (λ z. z.0)
 
-abbrev pub AllArm : Predicates → Arm-F Node Simple StmtForm Call Expr Link Arm Block Stmt → Type 0
+abbrev pub AllArm : Predicates → OfTrees Arm-F → Type 0
 AllArm F arm = F.expr arm.cond × AllByRecursion F.stmt arm.stmts
 
 abbrev pub HeldBlock : Predicates → Type 0
 HeldBlock F = Block-F (With F.node) (With F.simple) (With F.form) (With F.call) (With F.expr) (With F.link) (With F.arm) (With F.block) (With F.stmt)
 
-abbrev pub bare_block : (F : Predicates) → HeldBlock F → Block-F Node Simple StmtForm Call Expr Link Arm Block Stmt
+abbrev pub bare_block : (F : Predicates) → HeldBlock F → OfTrees Block-F
 bare_block F = map-Block (With F.node) (With F.simple) (With F.form) (With F.call) (With F.expr) (With F.link) (With F.arm) (With F.block) (With F.stmt) Node Simple StmtForm Call Expr Link Arm Block Stmt (λ z. z.0) (λ z. z.0) (λ z. z.0) (λ z. z.0) (λ z. z.0) (λ z. z.0) (λ z. z.0) (λ z. z.0) (λ z. z.0)
 
-abbrev pub AllBlock : Predicates → Block-F Node Simple StmtForm Call Expr Link Arm Block Stmt → Type 0
+abbrev pub AllBlock : Predicates → OfTrees Block-F → Type 0
 AllBlock F block = AllByRecursion F.stmt block.stmts
 
 abbrev pub HeldStmt : Predicates → Type 0
 HeldStmt F = Stmt-F (With F.node) (With F.simple) (With F.form) (With F.call) (With F.expr) (With F.link) (With F.arm) (With F.block) (With F.stmt)
 
-abbrev pub bare_stmt : (F : Predicates) → HeldStmt F → Stmt-F Node Simple StmtForm Call Expr Link Arm Block Stmt
+abbrev pub bare_stmt : (F : Predicates) → HeldStmt F → OfTrees Stmt-F
 bare_stmt F = map-Stmt (With F.node) (With F.simple) (With F.form) (With F.call) (With F.expr) (With F.link) (With F.arm) (With F.block) (With F.stmt) Node Simple StmtForm Call Expr Link Arm Block Stmt (λ z. z.0) (λ z. z.0) (λ z. z.0) (λ z. z.0) (λ z. z.0) (λ z. z.0) (λ z. z.0) (λ z. z.0) (λ z. z.0)
 
-abbrev pub AllStmt : Predicates → Stmt-F Node Simple StmtForm Call Expr Link Arm Block Stmt → Type 0
+abbrev pub AllStmt : Predicates → OfTrees Stmt-F → Type 0
 AllStmt F stmt = F.form stmt.form
 
 -- lists and options
@@ -242,7 +243,7 @@ all_stmt F y = y.form.1
 
 -- the children of a layer with the facts that hold of them
 
-pub held_node : (F : Predicates) (x : Node-F Node Simple StmtForm Call Expr Link Arm Block Stmt) → AllNode F x → (y : HeldNode F) × (bare_node F y ≡ x)
+pub held_node : (F : Predicates) (x : OfTrees Node-F) → AllNode F x → (y : HeldNode F) × (bare_node F y ≡ x)
 held_node F (Node-F.Literal value) h = (Node-F.Literal value, refl)
 held_node F (Node-F.Name name) h = (Node-F.Name name, refl)
 held_node F (Node-F.Call call) h = (Node-F.Call (call, h), refl)
@@ -252,7 +253,7 @@ held_node F (Node-F.Dot of call) h = (Node-F.Dot (of, h.0) (call, h.1), refl)
 held_node F (Node-F.Unary op of) h = (Node-F.Unary op (of, h), refl)
 held_node F (Node-F.Chain kind first rest) h = let ys = paired F.link rest h.1 in (Node-F.Chain kind (first, h.0) ys.pairs, ap (λ z. Node-F.Chain kind first z) ys.are)
 
-pub held_simple : (F : Predicates) (x : Simple-F Node Simple StmtForm Call Expr Link Arm Block Stmt) → AllSimple F x → (y : HeldSimple F) × (bare_simple F y ≡ x)
+pub held_simple : (F : Predicates) (x : OfTrees Simple-F) → AllSimple F x → (y : HeldSimple F) × (bare_simple F y ≡ x)
 held_simple F (Simple-F.Iff arms None) h = let ys = paired F.arm arms h.0 in (Simple-F.Iff ys.pairs None, ap (λ z. Simple-F.Iff z None) ys.are)
 held_simple F (Simple-F.Iff arms (Some other)) h =
     let ys = paired F.arm arms h.0 in
@@ -261,11 +262,11 @@ held_simple F (Simple-F.Iff arms (Some other)) h =
 held_simple F (Simple-F.Assign name op value) h = (Simple-F.Assign name op (value, h), refl)
 held_simple F (Simple-F.Value value) h = (Simple-F.Value (value, h), refl)
 
-pub held_form : (F : Predicates) (x : StmtForm-F Node Simple StmtForm Call Expr Link Arm Block Stmt) → AllStmtForm F x → (y : HeldStmtForm F) × (bare_form F y ≡ x)
+pub held_form : (F : Predicates) (x : OfTrees StmtForm-F) → AllStmtForm F x → (y : HeldStmtForm F) × (bare_form F y ≡ x)
 held_form F (StmtForm-F.Plain simple) h = (StmtForm-F.Plain (simple, h), refl)
 held_form F (StmtForm-F.Guarded simple unless cond) h = (StmtForm-F.Guarded (simple, h.0) unless (cond, h.1), refl)
 
-held_call_with : (F : Predicates) (x : Call-F Node Simple StmtForm Call Expr Link Arm Block Stmt) (o : Option Block) → AllCall F (record x { block = o }) → (y : HeldCall F) × (bare_call F y ≡ record x { block = o })
+held_call_with : (F : Predicates) (x : OfTrees Call-F) (o : Option Block) → AllCall F (record x { block = o }) → (y : HeldCall F) × (bare_call F y ≡ record x { block = o })
 held_call_with F x None h =
     let ys = paired F.expr x.args h.0 in
     let zs = paired_options F.expr x.options h.1 in (
@@ -279,26 +280,26 @@ held_call_with F x (Some block) h =
       λ i. record { name = x.name; wrapped = x.wrapped; args = ys.are i; options = zs.are i; block = Some block },
     )
 
-pub held_call : (F : Predicates) (x : Call-F Node Simple StmtForm Call Expr Link Arm Block Stmt) → AllCall F x → (y : HeldCall F) × (bare_call F y ≡ x)
+pub held_call : (F : Predicates) (x : OfTrees Call-F) → AllCall F x → (y : HeldCall F) × (bare_call F y ≡ x)
 held_call F x h = held_call_with F x x.block h
 
-pub held_expr : (F : Predicates) (x : Expr-F Node Simple StmtForm Call Expr Link Arm Block Stmt) → AllExpr F x → (y : HeldExpr F) × (bare_expr F y ≡ x)
+pub held_expr : (F : Predicates) (x : OfTrees Expr-F) → AllExpr F x → (y : HeldExpr F) × (bare_expr F y ≡ x)
 held_expr F x h = (record { wraps = x.wraps; node = (x.node, h) }, refl)
 
-pub held_link : (F : Predicates) (x : Link-F Node Simple StmtForm Call Expr Link Arm Block Stmt) → AllLink F x → (y : HeldLink F) × (bare_link F y ≡ x)
+pub held_link : (F : Predicates) (x : OfTrees Link-F) → AllLink F x → (y : HeldLink F) × (bare_link F y ≡ x)
 held_link F x h = (record { op = x.op; part = (x.part, h) }, refl)
 
-pub held_arm : (F : Predicates) (x : Arm-F Node Simple StmtForm Call Expr Link Arm Block Stmt) → AllArm F x → (y : HeldArm F) × (bare_arm F y ≡ x)
+pub held_arm : (F : Predicates) (x : OfTrees Arm-F) → AllArm F x → (y : HeldArm F) × (bare_arm F y ≡ x)
 held_arm F x h =
     let ys = paired F.stmt x.stmts h.1 in
     (record { unless = x.unless; cond = (x.cond, h.0); stmts = ys.pairs }, λ i. record { unless = x.unless; cond = x.cond; stmts = ys.are i })
 
-pub held_block : (F : Predicates) (x : Block-F Node Simple StmtForm Call Expr Link Arm Block Stmt) → AllBlock F x → (y : HeldBlock F) × (bare_block F y ≡ x)
+pub held_block : (F : Predicates) (x : OfTrees Block-F) → AllBlock F x → (y : HeldBlock F) × (bare_block F y ≡ x)
 held_block F x h =
     let ys = paired F.stmt x.stmts h in
     (record { number = x.number; params = x.params; stmts = ys.pairs }, λ i. record { number = x.number; params = x.params; stmts = ys.are i })
 
-pub held_stmt : (F : Predicates) (x : Stmt-F Node Simple StmtForm Call Expr Link Arm Block Stmt) → AllStmt F x → (y : HeldStmt F) × (bare_stmt F y ≡ x)
+pub held_stmt : (F : Predicates) (x : OfTrees Stmt-F) → AllStmt F x → (y : HeldStmt F) × (bare_stmt F y ≡ x)
 held_stmt F x h = (record { line = x.line; form = (x.form, h) }, refl)
 
 -- What holds in the layer of a tree, and in each layer of its children, holds in each layer of the tree.
@@ -350,7 +351,7 @@ made_stmt P x h here =
 
 -- the children of a layer, where the premise gives a first fact of each, which gives a second
 
-given_node : (L : Type 0) (F G : Predicates) (x : Node-F Node Simple StmtForm Call Expr Link Arm Block Stmt) → AllNode (where_given L F G) x → (L → AllNode F x) → AllNode G x
+given_node : (L : Type 0) (F G : Predicates) (x : OfTrees Node-F) → AllNode (where_given L F G) x → (L → AllNode F x) → AllNode G x
 given_node L F G (Node-F.Literal value) m h = tt
 given_node L F G (Node-F.Name name) m h = tt
 given_node L F G (Node-F.Call call) m h = m h
@@ -360,13 +361,13 @@ given_node L F G (Node-F.Dot of call) m h = (m.0 (λ l. (h l).0), m.1 (λ l. (h 
 given_node L F G (Node-F.Unary op of) m h = m h
 given_node L F G (Node-F.Chain kind first rest) m h = (m.0 (λ l. (h l).0), given_list L F.link G.link rest m.1 (λ l. (h l).1))
 
-given_simple : (L : Type 0) (F G : Predicates) (x : Simple-F Node Simple StmtForm Call Expr Link Arm Block Stmt) → AllSimple (where_given L F G) x → (L → AllSimple F x) → AllSimple G x
+given_simple : (L : Type 0) (F G : Predicates) (x : OfTrees Simple-F) → AllSimple (where_given L F G) x → (L → AllSimple F x) → AllSimple G x
 given_simple L F G (Simple-F.Iff arms None) m h = (given_list L F.arm G.arm arms m.0 (λ l. (h l).0), tt)
 given_simple L F G (Simple-F.Iff arms (Some other)) m h = (given_list L F.arm G.arm arms m.0 (λ l. (h l).0), given_list L F.stmt G.stmt other m.1 (λ l. (h l).1))
 given_simple L F G (Simple-F.Assign name op value) m h = m h
 given_simple L F G (Simple-F.Value value) m h = m h
 
-given_form : (L : Type 0) (F G : Predicates) (x : StmtForm-F Node Simple StmtForm Call Expr Link Arm Block Stmt) → AllStmtForm (where_given L F G) x → (L → AllStmtForm F x) → AllStmtForm G x
+given_form : (L : Type 0) (F G : Predicates) (x : OfTrees StmtForm-F) → AllStmtForm (where_given L F G) x → (L → AllStmtForm F x) → AllStmtForm G x
 given_form L F G (StmtForm-F.Plain simple) m h = m h
 given_form L F G (StmtForm-F.Guarded simple unless cond) m h = (m.0 (λ l. (h l).0), m.1 (λ l. (h l).1))
 
@@ -377,23 +378,23 @@ given_there : (L : Type 0) (F G : Block → Type 0) (o : Option Block) → IfSom
 given_there L F G None m h = tt
 given_there L F G (Some block) m h = m h
 
-given_call : (L : Type 0) (F G : Predicates) (x : Call-F Node Simple StmtForm Call Expr Link Arm Block Stmt) → AllCall (where_given L F G) x → (L → AllCall F x) → AllCall G x
+given_call : (L : Type 0) (F G : Predicates) (x : OfTrees Call-F) → AllCall (where_given L F G) x → (L → AllCall F x) → AllCall G x
 given_call L F G x m h =
     (given_list L F.expr G.expr x.args m.0 (λ l. (h l).0), given_options L F.expr G.expr x.options m.1 (λ l. (h l).1), given_there L F.block G.block x.block m.2 (λ l. (h l).2))
 
-given_expr : (L : Type 0) (F G : Predicates) (x : Expr-F Node Simple StmtForm Call Expr Link Arm Block Stmt) → AllExpr (where_given L F G) x → (L → AllExpr F x) → AllExpr G x
+given_expr : (L : Type 0) (F G : Predicates) (x : OfTrees Expr-F) → AllExpr (where_given L F G) x → (L → AllExpr F x) → AllExpr G x
 given_expr L F G x m h = m h
 
-given_link : (L : Type 0) (F G : Predicates) (x : Link-F Node Simple StmtForm Call Expr Link Arm Block Stmt) → AllLink (where_given L F G) x → (L → AllLink F x) → AllLink G x
+given_link : (L : Type 0) (F G : Predicates) (x : OfTrees Link-F) → AllLink (where_given L F G) x → (L → AllLink F x) → AllLink G x
 given_link L F G x m h = m h
 
-given_arm : (L : Type 0) (F G : Predicates) (x : Arm-F Node Simple StmtForm Call Expr Link Arm Block Stmt) → AllArm (where_given L F G) x → (L → AllArm F x) → AllArm G x
+given_arm : (L : Type 0) (F G : Predicates) (x : OfTrees Arm-F) → AllArm (where_given L F G) x → (L → AllArm F x) → AllArm G x
 given_arm L F G x m h = (m.0 (λ l. (h l).0), given_list L F.stmt G.stmt x.stmts m.1 (λ l. (h l).1))
 
-given_block : (L : Type 0) (F G : Predicates) (x : Block-F Node Simple StmtForm Call Expr Link Arm Block Stmt) → AllBlock (where_given L F G) x → (L → AllBlock F x) → AllBlock G x
+given_block : (L : Type 0) (F G : Predicates) (x : OfTrees Block-F) → AllBlock (where_given L F G) x → (L → AllBlock F x) → AllBlock G x
 given_block L F G x m h = given_list L F.stmt G.stmt x.stmts m h
 
-given_stmt : (L : Type 0) (F G : Predicates) (x : Stmt-F Node Simple StmtForm Call Expr Link Arm Block Stmt) → AllStmt (where_given L F G) x → (L → AllStmt F x) → AllStmt G x
+given_stmt : (L : Type 0) (F G : Predicates) (x : OfTrees Stmt-F) → AllStmt (where_given L F G) x → (L → AllStmt F x) → AllStmt G x
 given_stmt L F G x m h = m h
 
 -- One step of the induction for each type: from the children with what holds of them, the layer that they make, and what the premise gives of that layer.

@@ -8,7 +8,7 @@ use Rattle.vt_run.specs.declared.texts.Texts.{Texts}
 use Rattle.vt_run.specs.Actions.{acted, answered, wakes_by}
 use Rattle.vt_run.specs.laws.StepLaws.{AnswersLaw, IsPrefix}
 use Rattle.vt_run.specs.Evaluation.{Ran, Step, step}
-use Rattle.vt_run.specs.Threads.{acts, env_of}
+use Rattle.vt_run.specs.Threads.{acts}
 use Rattle.vt_run.proofs.growth.Closures.{Closure, answered_state}
 use Rattle.vt_run.proofs.growth.Growth.{Grows, same, cut, less, step_grows, halts_grow, after_grows}
 use Rattle.vt_run.proofs.steps.Prefixes.{answer_wakes, evaluation}

@@ -3,7 +3,6 @@ use Rattle.std.proofs.Common.{◌≡◌, ◌≤◌, ℕ, zero, suc, List, [], �
 use Rattle.std.specs.Prelude.{slice_get}
 use Rattle.vt_path.specs.declared.pattern.Segment.{Segment}
 use Rattle.vt_event.specs.declared.place.Place.{Place}
-use Rattle.vt_event.specs.declared.references.BlockRef.{BlockRef}
 use Rattle.vt_event.specs.Event.{EventView}
 use Rattle.vt_run.specs.declared.action.Action.TheVariants.{Read}
 use Rattle.vt_run.specs.declared.action.Answer.{Answer}
@@ -12,7 +11,6 @@ use Rattle.vt_run.specs.declared.start.Start.{Start}
 use Rattle.vt_run.specs.declared.state.State.{State}
 use Rattle.vt_run.specs.declared.texts.Texts.{Texts}
 use Rattle.vt_run.specs.Actions.{acted, answered, place_of, wakes_by, wakes_with, woken}
-use Rattle.vt_run.specs.Environment.{Body}
 use Rattle.vt_run.specs.Evaluation.{Ran, Step, does, step}
 use Rattle.vt_run.specs.Threads.{acts, env_of, thread}
 use Rattle.vt_run.proofs.growth.Closures.{Closure, Subject, answered_state}

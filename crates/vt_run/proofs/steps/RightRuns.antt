@@ -1,6 +1,7 @@
 -- What holds of the steps of a run, one after another, each at its moment, and of what the run leaves.
 use Rattle.std.proofs.Common.{◌≡◌, ◌≤◌, ℕ, ◌-◌, ◌+◌, List, [], ◌∷◌, ◌++◌, drop, Bool, true, false, Option, Some, None, refl, sym, subst, arith}
 use Rattle.std.specs.Prelude.{is_some, IsTrue}
+use Rattle.vt_event.specs.Kinds.{has_path}
 use Rattle.vt_run.specs.declared.action.Action.{Action}
 use Rattle.vt_run.specs.declared.action.Action.TheVariants.{Emit, Rest, Read, Wait, Spawn, End}
 use Rattle.vt_run.specs.declared.action.Answer.{Answer}
@@ -24,7 +25,7 @@ moment_in start answers st = record { stand = record { place = place_in start st
 
 -- What is known of an action, beyond its place. The number of an effect is not above that of its action.
 abbrev pub IsActionRight : Subject → Moment → Action → Type 0
-IsActionRight e now (Emit event) = IsEffectSmall e.start event → IsWellMade event × (e.L → IsEventWithin event)
+IsActionRight e now (Emit event) = (is_some event.path ≡ has_path event.kind) × (IsEffectSmall e.start event → IsWellMade event × (e.L → IsEventWithin event))
 IsActionRight e now (Rest place seconds) = e.L → IsActionWithin (Rest place seconds)
 IsActionRight e now (Read place pattern) = e.L → IsActionWithin (Read place pattern)
 IsActionRight e now (Wait place pattern stop) = (stop ≡ stop_pattern e.start.role) × (e.L → IsActionWithin (Wait place pattern stop))

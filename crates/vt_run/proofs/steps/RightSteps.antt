@@ -23,6 +23,7 @@ use Rattle.vt_event.specs.declared.place.Place.{Place}
 use Rattle.vt_event.specs.declared.references.BlockRef.{BlockRef}
 use Rattle.vt_event.specs.Event.{EventView}
 use Rattle.vt_event.specs.EventsByKind.{fx_event}
+use Rattle.vt_event.specs.Kinds.{has_path}
 use Rattle.vt_event.specs.Pairs.{Pairs}
 use Rattle.vt_event.proofs.Order.{before-place}
 use Rattle.vt_run.specs.declared.action.Action.TheVariants.{Emit, Rest, Read, Wait, Spawn, End}
@@ -121,11 +122,11 @@ module _ (e : Subject) where
       ∙ no_child st (λ k. record { stand = record { place = place; answers = drop (st.used + 1) e.answers }; children = k })
 
   -- an event, and what comes behind it
-  emits_right : (n : ℕ) (st : State) (event : EventView) (ran : Ran) → event.place ≡ place_in e.start st →
+  emits_right : (n : ℕ) (st : State) (event : EventView) (ran : Ran) → event.place ≡ place_in e.start st → is_some event.path ≡ has_path event.kind →
       (IsEffectSmall e.start event → IsWellMade event × (e.L → IsEventWithin event)) →
       IsRun e (n - 1) (moment_in e.start e.answers (acted st)) ran.steps ran.left → IsRun e n (moment_in e.start e.answers st) (does (emit_cost event) (Emit event) ran).steps ran.left
-  emits_right n st event ran placed told h =
-      run_begins e n (moment_in e.start e.answers st) (moment_in e.start e.answers (acted st)) (emit_cost event) (Emit event) ran (omega arith) (record { placed = placed; right = told }) refl
+  emits_right n st event ran placed path told h =
+      run_begins e n (moment_in e.start e.answers st) (moment_in e.start e.answers (acted st)) (emit_cost event) (Emit event) ran (omega arith) (record { placed = placed; right = (path, told) }) refl
       (no_child st (λ k. record { stand = (moment_in e.start e.answers (acted st)).stand; children = k })) h
 
   fewer_right : (n : ℕ) (st : State) (ran : Ran) → IsRun e n (moment_in e.start e.answers st) ran.steps ran.left → IsRun e (suc n - 1) (moment_in e.start e.answers st) ran.steps ran.left
@@ -155,12 +156,12 @@ module _ (e : Subject) where
   emitted_right : (n : ℕ) (st : State) (a b : Ran) (event : EventView) → IsTold e.L (place_in e.start st) event → Right e n (acted st) a b →
       Right e (suc n) st (does (emit_cost event) (Emit event) a) (does (emit_cost event) (Emit event) b)
   emitted_right n st a b event told h effects =
-      emits_right (suc n) st event a told.placed (λ small. (told.made, told.within)) (fewer_right n (acted st) a (h (omega (arith, effects))))
+      emits_right (suc n) st event a told.placed told.made.fields.path_with_kind (λ small. (told.made, told.within)) (fewer_right n (acted st) a (h (omega (arith, effects))))
 
   effected_right : (n : ℕ) (st : State) (a b : Ran) (name : List ℕ) (options : Pairs) → (e.L → IsTrue (is_symbol_name name)) → (e.L → ArePairsWithin options) → (e.L → IsStateWithin st) →
       Right e n (effected_state st) a b → Right e (suc n) st (effect_step e.start name options st a) (effect_step e.start name options st b)
   effected_right n st a b name options symbol pairs s h effects =
-      emits_right (suc n) st (fx_event (place_in e.start st) name (st.effects + 1) options st.settings.fx) a refl (λ small.
+      emits_right (suc n) st (fx_event (place_in e.start st) name (st.effects + 1) options st.settings.fx) a refl refl (λ small.
       let number : st.effects + 1 < 2 ^ 32 = omega (arith, effects, (small refl).0, (small refl).1) in (
         fx_made (place_in e.start st) name (st.effects + 1) options st.settings.fx number,
         λ l. fx_within (place_in e.start st) name (st.effects + 1) options st.settings.fx (s l).fraction (symbol l) (pairs l) (omega (arith, number)),

@@ -11,7 +11,7 @@ use Rattle.vt_run.specs.declared.start.Start.{Start}
 use Rattle.vt_run.specs.declared.texts.Texts.{Texts}
 use Rattle.vt_run.specs.laws.StandingLaws.{StopsLaw}
 use Rattle.vt_run.specs.laws.StepFacts.{IsChild, IsThreadWithin}
-use Rattle.vt_run.specs.laws.StepLaws.{AreWhole, BlocksLaw, ChildrenLaw, ClosingLaw, CostsLaw, EventsLaw, IsStep, LastLaw, LimitsLaw, PlacesLaw}
+use Rattle.vt_run.specs.laws.StepLaws.{AreWhole, BlocksLaw, ChildrenLaw, ClosingLaw, CostsLaw, EventPathsLaw, EventsLaw, IsStep, LastLaw, LimitsLaw, PlacesLaw}
 use Rattle.vt_run.specs.Evaluation.{Left, Step}
 use Rattle.vt_run.specs.Threads.{acts, thread}
 use Rattle.vt_run.proofs.growth.Closures.{Subject}
@@ -121,11 +121,14 @@ children_law texts start answers prefix step place child is some =
 pub blocks_law : BlocksLaw
 blocks_law texts start answers prefix step place child given is some = (action_done texts start answers prefix step (Spawn place child) is some).right.1 given
 
+pub event_paths_law : EventPathsLaw
+event_paths_law texts start answers prefix step event is some = (action_done texts start answers prefix step (Emit event) is some).right.0
+
 pub events_law : EventsLaw
-events_law texts start answers prefix step event is some small = ((action_done texts start answers prefix step (Emit event) is some).right small).0
+events_law texts start answers prefix step event is some small = ((action_done texts start answers prefix step (Emit event) is some).right.1 small).0
 
 pub limits_law : LimitsLaw
-limits_law texts start answers prefix step (Emit event) given is some small = ((action_done texts start answers prefix step (Emit event) is some).right small).1 given
+limits_law texts start answers prefix step (Emit event) given is some small = ((action_done texts start answers prefix step (Emit event) is some).right.1 small).1 given
 limits_law texts start answers prefix step (Rest place seconds) given is some small = (action_done texts start answers prefix step (Rest place seconds) is some).right given
 limits_law texts start answers prefix step (Read place pattern) given is some small = (action_done texts start answers prefix step (Read place pattern) is some).right given
 limits_law texts start answers prefix step (Wait place pattern stop) given is some small = (action_done texts start answers prefix step (Wait place pattern stop) is some).right.1 given

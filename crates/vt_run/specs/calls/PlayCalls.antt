@@ -1,5 +1,5 @@
 -- The calls that sound: `play`, `synth` and `sample`. After the Sonic Pi tutorial, chapters 2 and 3; kinds and faults are own.
-use Rattle.std.specs.Prelude.{ℕ, List, [], ◌∷◌, ◌++◌, map, filter, Bool, false, ◌||◌, not, cond, codes, bytes_eq, is_some, Option, Some, None, Result, Ok, Err}
+use Rattle.std.specs.Prelude.{ℕ, List, ◌++◌, map, filter, Bool, false, ◌||◌, not, cond, codes, bytes_eq, is_some, Option, Some, None, Result, Ok, Err}
 use Rattle.std.specs.List.{filter_map, list_any}
 use Rattle.vt_ring.specs.Answers.{and_then, all_of}
 use Rattle.vt_ring.specs.Signatures.{note_argument, one_of}

@@ -1,11 +1,11 @@
 -- The calls `tick`, `look`, `tick_set` and `tick_reset`. After the Sonic Pi tutorial, chapter 9; exact numbers, kinds and faults are own.
-use Rattle.std.specs.Prelude.{ℕ, ℤ, pos, negsuc, ◌+ℤ◌, List, [], ◌∷◌, ◌++◌, filter, find, length, Bool, true, not, nat_lt, codes, bytes_eq, Option, Some, None, unwrap_or, Result, Ok, Err}
+use Rattle.std.specs.Prelude.{ℕ, ℤ, pos, negsuc, ◌+ℤ◌, List, [], ◌∷◌, ◌++◌, filter, find, not, codes, bytes_eq, Option, Some, None, unwrap_or, Result, Ok, Err}
 use Rattle.std.specs.Option.{option_map}
 use Rattle.vt_ring.specs.Answers.{and_then}
 use Rattle.vt_ring.specs.Arguments.{whole_argument}
 use Rattle.vt_ring.specs.Called.{demand}
 use Rattle.vt_ring.specs.Items.{item_at}
-use Rattle.vt_ring.specs.Signatures.{one_or_none_of, ring_argument, symbol_argument}
+use Rattle.vt_ring.specs.Signatures.{one_or_none_of, symbol_argument}
 use Rattle.vt_value.specs.declared.fault.FaultKind.{FaultKind}
 use Rattle.vt_value.specs.declared.fault.FaultKind.TheVariants.{EmptyRing, WrongCount}
 use Rattle.vt_value.specs.declared.value.Value.{Value}

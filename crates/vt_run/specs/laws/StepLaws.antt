@@ -1,7 +1,8 @@
 -- The laws of the steps of a thread. What runs a thread, and what orders many, stands on these, on those of `SequenceLaws`, and on what the words in them mean, and not on how the definitions of a thread go.
-use Rattle.std.specs.Prelude.{◌≡◌, ◌⊎◌, ℕ, ◌+◌, ◌<◌, ◌≤◌, List, [], ◌∷◌, ◌++◌, length, false, Option, Some, IsSome, IsTrue, slice_get, take}
+use Rattle.std.specs.Prelude.{◌≡◌, ◌⊎◌, ℕ, ◌+◌, ◌<◌, ◌≤◌, List, [], ◌∷◌, ◌++◌, length, false, Option, Some, IsSome, IsTrue, is_some, slice_get, take}
 use Rattle.vt_event.specs.declared.place.Place.{Place}
 use Rattle.vt_event.specs.Event.{EventView}
+use Rattle.vt_event.specs.Kinds.{has_path}
 use Rattle.vt_event.specs.Order.{IsBefore}
 use Rattle.vt_run.specs.declared.action.Action.{Action}
 use Rattle.vt_run.specs.declared.action.Action.TheVariants.{Emit, Spawn}
@@ -115,6 +116,12 @@ abbrev pub EventsLaw : Type 0
 EventsLaw =
     (texts : Texts) (start : Start) (answers : List Answer) (prefix : List Step) (step : Step) (event : EventView) →
     IsStep texts start answers prefix step → step.action ≡ Some (Emit event) → IsEffectSmall start event → IsWellMade event
+
+-- each event has a path exactly where its kind has one, also where the number of an effect is too great
+abbrev pub EventPathsLaw : Type 0
+EventPathsLaw =
+    (texts : Texts) (start : Start) (answers : List Answer) (prefix : List Step) (step : Step) (event : EventView) →
+    IsStep texts start answers prefix step → step.action ≡ Some (Emit event) → is_some event.path ≡ has_path event.kind
 
 -- all that a thread does is within the limits of the language, where what it is given is
 abbrev pub LimitsLaw : Type 0

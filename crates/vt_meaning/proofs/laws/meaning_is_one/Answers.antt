@@ -1,4 +1,4 @@
-use Rattle.vt_meaning.proofs.Rounds.{meaning_is_one}
+use Rattle.vt_meaning.proofs.Totality.{meaning_is_one}
 use Rattle.vt_meaning.proofs.laws.meaning_is_one.Goals as goal
 
 pub returns : goal.returns

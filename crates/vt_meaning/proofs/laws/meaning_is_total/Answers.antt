@@ -1,5 +1,6 @@
-use Rattle.vt_meaning.proofs.Rounds.{meaning_is_total}
+use Rattle.std.specs.Prelude.{true}
+use Rattle.vt_meaning.proofs.Totality.{meaning_is_total}
 use Rattle.vt_meaning.proofs.laws.meaning_is_total.Goals as goal
 
 pub returns : goal.returns
-returns c = meaning_is_total c.each_step_costs.ensures c.standing_tells_what_is_next.ensures c.fewer_steps_are_a_prefix.ensures c.answers_only_extend.ensures
+returns c = meaning_is_total (λ texts until. c.threads_of_texts_act.ensures texts until (λ start pattern. true) (λ start. true) (λ event. true))

@@ -1,0 +1,7 @@
+mod InnerLemmas
+mod PathLemmas
+mod Places
+mod ReachLemmas
+mod SearchLemmas
+mod TreeFounds
+mod TreeUses

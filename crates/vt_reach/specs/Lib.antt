@@ -1,0 +1,6 @@
+pub mod Founds
+pub mod Mentions
+pub mod Reach
+pub mod TreeMentions
+pub mod Uses
+pub mod private

@@ -1,0 +1,9 @@
+pub mod WordLemmas
+pub mod LineLemmas
+pub mod ValueLemmas
+pub mod TimeLemmas
+pub mod FormLemmas
+pub mod LawLemmas
+pub mod StandingLemmas
+pub mod SoundLemmas
+pub mod ReadLemmas

@@ -1,0 +1,9 @@
+pub mod Lines
+pub mod Words
+pub mod Times
+pub mod Given
+pub mod Directives
+pub mod Rules
+pub mod Sessions
+pub mod Laws
+pub mod private

@@ -1,0 +1,27 @@
+//! Laws of sessions. Each function does nothing; its contract is the law.
+ghost use Rattle.vt_session.specs.Laws.{NotBoth, NothingIsLost, OneBadLine, OneSession, TextOneIsFirst};
+
+/// The lines, one after another, are the bytes.
+pub fn nothing_is_lost()
+    ensures { NothingIsLost }
+{}
+
+/// No lines are two sessions.
+pub fn one_session()
+    ensures { OneSession }
+{}
+
+/// No lines are a session and refused.
+pub fn not_both()
+    ensures { NotBoth }
+{}
+
+/// No lines are refused for two lines.
+pub fn one_bad_line()
+    ensures { OneBadLine }
+{}
+
+/// The lines before the first directive are text 1, also where there are none.
+pub fn text_one_is_first()
+    ensures { TextOneIsFirst }
+{}
