@@ -210,3 +210,14 @@ final_stays m law live opening knowns ok these those consistent (Stepped i t pla
     by m law opening knowns these those place (subst (λ answer. IsNext m opening these (moved_on these i (one_more t) answer) place) (ap (λ wants. wants.step.action) (sym same)) (step_next m law live opening knowns ok these consistent i t place has goes))
 final_stays m law live opening knowns ok these those consistent (Told i t place pattern answer has asks quiet last) = by m law opening knowns these those place (read_next m law live opening knowns these consistent i t has place pattern answer asks)
 final_stays m law live opening knowns ok these those consistent (Woken i t place wants event has waits first clear) = by m law opening knowns these those (wake event place) (wait_next m law live opening knowns these consistent i t has place wants event waits first)
+
+-- **the front never falls**: what it has passed it has passed for good
+pub front_stays : (m : ThreadMeaning) (law : IsLawful m) (live : IsLive m) (opening : Opening) (knowns : IsKnown m opening) → IsOrderly opening → (these those : List Thread) → IsConsistent m opening these → Follows m opening these those →
+    (r : Place) → Clear m opening these r → Clear m opening those r
+front_stays m law live opening knowns ok these those consistent (Stepped i t place x has goes grown) r clear =
+    let same : x ≡ (live.grows t place (consistent.exact i t has) goes).0 = (snoc (trace m t) (trace m t) x (live.grows t place (consistent.exact i t has) goes).0 (sym grown ∙ (live.grows t place (consistent.exact i t has) goes).1)).1 in
+    clear_kept m law opening knowns these those place (subst (λ answer. IsNext m opening these (moved_on these i (one_more t) answer) place) (ap (λ wants. wants.step.action) (sym same)) (step_next m law live opening knowns ok these consistent i t place has goes)) r clear
+front_stays m law live opening knowns ok these those consistent (Told i t place pattern answer has asks quiet last) r clear =
+    clear_kept m law opening knowns these those place (read_next m law live opening knowns these consistent i t has place pattern answer asks) r clear
+front_stays m law live opening knowns ok these those consistent (Woken i t place wants event has waits first passed) r clear =
+    clear_kept m law opening knowns these those (wake event place) (wait_next m law live opening knowns these consistent i t has place wants event waits first) r clear

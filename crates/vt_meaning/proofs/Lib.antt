@@ -52,3 +52,4 @@ mod NotPast
 mod RealStores
 mod Examples
 mod ReachedWorlds
+mod WholeScores

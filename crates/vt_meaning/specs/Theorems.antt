@@ -1,5 +1,5 @@
 -- The theorems on the meaning of a session and its stores: own.
-use Rattle.std.specs.Prelude.{take, ◌≤◌, length, ◌<◌, Bool, Contains, ◌↔◌, true, ◌+◌, sum_by, ◌++◌, ◌≡◌, ℕ, List, ◌⊎◌, slice_get, Option, Some, None}
+use Rattle.std.specs.Prelude.{take, ◌≤◌, length, ◌<◌, Bool, Contains, ◌↔◌, true, ◌+◌, sum_by, ◌++◌, ◌≡◌, ℕ, List, [], ◌∷◌, ◌⊎◌, slice_get, Option, Some, None}
 use Rattle.std.specs.List.Sorted.{IsPermutation}
 use Rattle.vt_event.specs.Event.{EventView}
 use Rattle.vt_event.specs.declared.place.Place.{Place}
@@ -131,6 +131,23 @@ abbrev pub ReadsPass : Type 0
 ReadsPass =
     (m : ThreadMeaning) (opening : Opening) → IsSession m opening → (threads : List Thread) → IsConsistent m opening threads → (waits count : ℕ) → NoFinalWait m opening threads waits → NoFinalRead m opening threads count → (thread : Thread) (place : Place) (pattern : List Segment) (answer : Answer) →
     slice_get threads count ≡ Some thread → stance_in m thread ≡ Asks place pattern → NoFinalWait m opening (moved_on threads count (told answer thread) None) waits × NoFinalRead m opening (moved_on threads count (told answer thread) None) (count + 1)
+
+-- each of these events stands before all behind it
+abbrev pub AreRising : List EventView → Type 0
+AreRising [] = Unit {0}
+AreRising (event ∷ events) = ((other : EventView) → Contains events other → Before event.place other.place) × AreRising events
+
+-- the events of a score are all that happened, and nothing else, in order of place
+abbrev pub ScoresHaveAll : Type 0
+ScoresHaveAll =
+    (m : ThreadMeaning) (opening : Opening) → IsSession m opening → (threads : List Thread) → IsConsistent m opening threads →
+    AreRising (score_of m opening threads).events × ((event : EventView) → Contains (score_of m opening threads).events event ↔ Happened m opening threads event)
+
+-- **the front never falls**: where it is above a place, it stays so, whatever changes
+abbrev pub FrontStays : Type 0
+FrontStays =
+    (m : ThreadMeaning) (opening : Opening) → IsSession m opening → (threads others : List Thread) → IsConsistent m opening threads → Follows m opening threads others →
+    (place : Place) → Clear m opening threads place → Clear m opening others place
 
 -- **what is final stays final**, with its answer, whatever changes
 abbrev pub FinalStays : Type 0

@@ -32,8 +32,9 @@ pub use real_threads::{
 pub use stores::{
     answers_enable_little, answers_keep_stores_consistent, disturbers_are_listed,
     final_answers_stay, finished_stores_hold_the_meaning, finished_threads_rest,
-    first_of_two_wants, front_is_tested, marks_find_disturbers, numbers_stay_low,
-    opening_store_is_consistent, reads_at_the_front_are_final, relation_is_the_meaning,
-    something_is_due, steps_keep_stores_consistent, stores_agree, stores_stay_within_the_budget,
+    first_of_two_wants, front_is_tested, front_never_falls, marks_find_disturbers,
+    numbers_stay_low, opening_store_is_consistent, reads_at_the_front_are_final,
+    relation_is_the_meaning, scores_have_all_events, something_is_due,
+    steps_keep_stores_consistent, stores_agree, stores_stay_within_the_budget,
     two_passes_answer_all,
 };

@@ -1,7 +1,7 @@
 //! The laws of stores: what is proved of a set of threads of a session that some workers ran, against the meaning. Each contract is a law.
 
 ghost use Rattle.vt_meaning.specs.Numbers.{NumbersStayLow};
-ghost use Rattle.vt_meaning.specs.Theorems.{DisturbersRight, FinalStays, FinishedHolds, FirstOfTwo, FrontReads, FrontRight, LivingRight, MarksEnough, MarksTell, NeverAbove, Opens, PiecesAdd, PiecesKeep, Progress, ReadsEnable, ReadsKeep, ReadsPass, ReadsPassed, RelationIsMeaning, StepsKeep, StoresAgree, WaitsEnable, WaitsKeep, WaitsPass};
+ghost use Rattle.vt_meaning.specs.Theorems.{DisturbersRight, FinalStays, FinishedHolds, FirstOfTwo, FrontReads, FrontRight, FrontStays, LivingRight, MarksEnough, MarksTell, NeverAbove, Opens, PiecesAdd, PiecesKeep, Progress, ReadsEnable, ReadsKeep, ReadsPass, ReadsPassed, RelationIsMeaning, ScoresHaveAll, StepsKeep, StoresAgree, WaitsEnable, WaitsKeep, WaitsPass};
 
 /// A finished consistent store that is within the budget holds what the session means, and the session is not spent.
 pub fn finished_stores_hold_the_meaning()
@@ -34,6 +34,16 @@ pub fn answers_keep_stores_consistent()
 /// What is final stays so, with the same answer, whatever one step or answer of another thread changes.
 pub fn final_answers_stay()
     ensures { FinalStays }
+{}
+
+/// The score of a store has all that happened in it, and nothing else, in order of place.
+pub fn scores_have_all_events()
+    ensures { ScoresHaveAll }
+{}
+
+/// The front never falls: what it has passed it has passed for good.
+pub fn front_never_falls()
+    ensures { FrontStays }
 {}
 
 /// While a thread has a bound, a thread is ready, or a read or a wait is final.
