@@ -40,7 +40,7 @@ abbrev pub EndsText : List (List ℕ) → Type 0
 EndsText [] = ⊤
 EndsText (line ∷ lines) = IsOtherDirective line
 
--- the text begins at time 0, and its bytes are the lines before the first directive, in version 2 behind line 1, also where there are none
+-- the text begins at time 0, and its bytes are the lines before the first other directive than `%session 2`, in version 2 behind line 1, also where there are none
 pub record IsTextOne (lines : List (List ℕ)) (part : TextPart) : Type 0 where
   pub head : List (List ℕ)
   pub own : List (List ℕ)

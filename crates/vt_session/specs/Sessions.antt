@@ -26,7 +26,7 @@ text_before_directive _ = []
 abbrev pub text_part : Fraction → ℕ → List Line → TextPart
 text_part time first_line lines = record { time = time; first_line = first_line; text = text_before_directive lines }
 
--- text 1, at time 0: the lines before the first directive, in version 2 without line 1
+-- text 1, at time 0: the lines before the first directive, in version 2 those behind line 1 and before the first other one
 abbrev pub first_text : List Line → TextPart
 first_text (VersionLine ∷ lines) = text_part (whole (pos 0)) 2 lines
 first_text lines = text_part (whole (pos 0)) 1 lines

@@ -21,7 +21,8 @@ pub fn one_bad_line()
     ensures { OneBadLine }
 {}
 
-/// The lines before the first directive are text 1, also where there are none.
+/// The lines before the first directive other than `%session 2` are text 1, behind that line in version 2, also where there
+/// are none.
 pub fn text_one_is_first()
     ensures { TextOneIsFirst }
 {}

@@ -48,7 +48,7 @@ pub(crate) struct Reader {
 
 /// The session of the bytes, or the first line that breaks a rule of sessions.
 ///
-/// It fails with `NoMemory` only for want of memory.
+/// `NoMemory` says that memory is wanting; no clause says where.
 pub fn read_session(alloc: Global, bytes: &[u8]) -> Result<Session, SessionFault>
     requires { length bytes.now ≤ 1048576 }
     ensures session { IfOk result (λ session. IsSession (lines_of bytes.now) session) }

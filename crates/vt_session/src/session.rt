@@ -8,8 +8,9 @@ use vt_event::Inputs;
 
 /// A session: its texts and its timed inputs, each in the order of the lines. Contracts see it as the record of the two lists.
 ///
-/// Text 1 begins at time 0. The texts and the inputs are orderly: no time is below an earlier one of its list, and the i-th
-/// input (from 1) stands at its time, micro step 0, thread `[0]` and step i. The type keeps that.
+/// The texts and the inputs are orderly: no time is below an earlier one of its list, and the i-th input (from 1) stands at
+/// its time, micro step 0, thread `[0]` and step i. The type keeps that. In the session of lines there is text 1 besides, at
+/// time 0 (`text_one_is_first`).
 #[derive(Drop)]
 pub struct Session {
     texts: TextParts,
@@ -39,7 +40,7 @@ impl Session {
         Session { texts, inputs }
     }
 
-    /// Its texts, of which there is one at least.
+    /// Its texts.
     pub fn texts(&self) -> &TextParts
         ensures { result.now ≡ self.now.texts }
     {
