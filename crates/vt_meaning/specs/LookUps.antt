@@ -83,7 +83,7 @@ matches_event pattern event = not (is_took event.kind) && matches_some pattern e
 abbrev pub meets_wants : List (List Segment) → EventView → Bool
 meets_wants wants event = list_any (λ pattern. matches_event pattern event) wants
 
--- the one that stands lower, or higher
+-- of two events the one that stands lower; and the one that stands higher
 abbrev pub lower : EventView → Option EventView → EventView
 lower event None = event
 lower event (Some other) = cond (is_before other.place event.place) other event

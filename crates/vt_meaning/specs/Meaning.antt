@@ -18,7 +18,7 @@ use Rattle.vt_meaning.specs.Traces.{stance_in}
 use Rattle.vt_meaning.specs.Turns.{soonest, turn_of}
 use Rattle.vt_meaning.specs.World.{Opening, World, events_of, opening_world, total_of}
 
--- one more among those that are in order: before the first that is not before it, and not at all where that stands where it does
+-- One more is put among those that are in order: in front of the first that comes after it. Where one stands at its place already, that one stays and the new one is left out.
 abbrev pub put_in : {A : Type 0} → (A → A → Bool) → A → List A → List A
 put_in before x [] = x ∷ []
 put_in before x (y ∷ ys) = cond (before y x) (y ∷ put_in before x ys) (cond (before x y) (x ∷ y ∷ ys) (y ∷ ys))

@@ -26,7 +26,7 @@ place_in events (Waits place pattern stop) = woken_at place (first_above events 
 place_in events (Asleep time) = None
 place_in events Over = None
 
--- a thread by its number in the world, at this place, or another one, if that is lower
+-- of two threads, each by its number and the place at which it goes on, the one with the lower place; of the first one the number and the place are given apart
 abbrev pub sooner : ℕ → Option Place → Option (ℕ × Place) → Option (ℕ × Place)
 sooner number None other = other
 sooner number (Some place) None = Some (number, place)

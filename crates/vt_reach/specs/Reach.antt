@@ -1,4 +1,4 @@
--- The reach of a block: at which paths a thread that runs it may publish, itself and by whatever it starts or calls. Own.
+-- The reach of a block: which paths a thread that runs it may write, itself and by whatever it starts or calls. To write is to publish what a pattern can find: what a `sync` takes has a path too, and no pattern finds it. Own.
 use Rattle.std.specs.Prelude.{◌≡◌, ℕ, suc, List, [], ◌∷◌, Bool, false, Option, Some}
 use Rattle.std.specs.List.{Contains}
 use Rattle.vt_path.specs.Match.{Matches}
@@ -51,7 +51,7 @@ HasBlock rows text block = (found : Row) × IsBlock rows text block found
 abbrev pub HasNoText : List Row → ℕ → Type 0
 HasNoText rows text = (found : Row) → Contains rows found → found.text ≡ text → ⊥
 
--- a thread that runs this block, and all that it leads to, may publish an event whose path the pattern matches
+-- a thread that runs this block, and all that it leads to, may write a path that the pattern matches
 abbrev pub MayWrite : List Row → ℕ → ℕ → List Segment → Type 0
 MayWrite rows text block pattern =
     (found : Row) × (mention : Mention) × IsBlock rows text block found × Reaches rows found mention × IsMet pattern mention

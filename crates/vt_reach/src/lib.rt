@@ -1,4 +1,4 @@
-//! The reach of a block: at which paths a thread that runs it may publish, itself and by whatever it starts or calls.
+//! The reach of a block: which paths a thread that runs it may write, itself and by whatever it starts or calls.
 #![tactic(auto)]
 
 mod bodies;

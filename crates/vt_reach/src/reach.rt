@@ -104,8 +104,8 @@ impl Reach {
         }
     }
 
-    /// Whether a thread that runs this block of this text, and all that it starts and calls, may publish an event whose path
-    /// the pattern matches.
+    /// Whether a thread that runs this block of this text, and all that it starts and calls, may write a path that the pattern
+    /// matches: publish there what a read or a wait can find.
     pub fn may_write(&self, text: u32, block: u32, pattern: &Pattern) -> bool
         requires { HasBlock self.now text block }
         ensures { IsTrue result ↔ MayWrite self.now text block pattern.now }
