@@ -11,3 +11,5 @@ mod parse;
 mod reach;
 #[cfg(test)]
 mod run;
+#[cfg(test)]
+mod serial;

@@ -3,5 +3,6 @@ pub mod FirstParts
 pub mod Outcomes
 pub mod Pieces
 pub mod Scores
-pub mod Verdicts
-pub mod Words
+pub mod CommandLemmas
+pub mod CheckLemmas
+pub mod LineWords

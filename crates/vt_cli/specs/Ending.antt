@@ -2,13 +2,14 @@
 use Rattle.std.specs.Prelude.{ℕ, ◌<◌, ◌≡◌, ◌⊎◌, List, Option, length, take}
 use Rattle.std.specs.Io.KnownBytes.{Appends}
 use Rattle.vt_cli.specs.declared.status.Status.{Status}
-use Rattle.vt_cli.specs.declared.status.Status.TheVariants.{Fine, Usage, TooLong, ReadFault, WriteFault, NoMemory, Faulty}
+use Rattle.vt_cli.specs.declared.status.Status.TheVariants.{Fine, Usage, TooLong, BadSession, ReadFault, WriteFault, NoMemory, Faulty}
 
 -- the exit status of a program that ends so
 abbrev pub code_of : Status → ℕ
 code_of Fine = 0
 code_of Usage = 1
 code_of TooLong = 2
+code_of BadSession = 3
 code_of ReadFault = 5
 code_of WriteFault = 6
 code_of NoMemory = 7
@@ -19,6 +20,7 @@ abbrev pub IsDecided : Status → Type 0
 IsDecided Fine = Unit {0}
 IsDecided Usage = Unit {0}
 IsDecided TooLong = Unit {0}
+IsDecided BadSession = Unit {0}
 IsDecided ReadFault = ⊥
 IsDecided WriteFault = ⊥
 IsDecided NoMemory = ⊥
@@ -43,6 +45,7 @@ abbrev pub IsAnswerFormed : Status → Type 0
 IsAnswerFormed Fine = Unit {0}
 IsAnswerFormed Usage = Unit {0}
 IsAnswerFormed TooLong = Unit {0}
+IsAnswerFormed BadSession = Unit {0}
 IsAnswerFormed ReadFault = ⊥
 IsAnswerFormed WriteFault = Unit {0}
 IsAnswerFormed NoMemory = ⊥

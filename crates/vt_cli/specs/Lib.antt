@@ -1,9 +1,11 @@
 pub mod Ending
 pub mod private
+pub mod Check
+pub mod Commands
 pub mod Line
+pub mod Options
 pub mod Outcome
 pub mod Piece
 pub mod Reading
 pub mod ScoreLaws
-pub mod Verdict
 pub mod Words

@@ -1,7 +1,8 @@
 -- The words of the command line as the program has them, and what of them counts. Own.
 use Rattle.std.specs.Prelude.{ℕ, List, map, String, string_bytes, ◌≡◌, true, false, None}
 use Rattle.std.specs.declared.alloc.Global.{Global}
-use Rattle.vt_cli.specs.Outcome.{AnswerView, command_of, outcome, wants_input, IsFaulty, IsTooLong}
+use Rattle.vt_cli.specs.Commands.{command_of}
+use Rattle.vt_cli.specs.Outcome.{AnswerView, outcome, wants_input, IsBadSession, IsFaulty, IsTooLong}
 
 -- the words after the program's name
 abbrev pub Words : Type 0
@@ -30,6 +31,10 @@ WantNoInput words = wants_input (command_of (bytes_of words)) ≡ false
 -- the words ask for an input that is longer than allowed
 abbrev pub WantTooMuch : Words → List ℕ → Type 0
 WantTooMuch words input = IsTooLong (bytes_of words) input
+
+-- the words ask for a session, and the input, within the limit, is none
+abbrev pub HaveBadSession : Words → List ℕ → Type 0
+HaveBadSession words input = IsBadSession (bytes_of words) input
 
 -- the answer to the words and the input reports a fault of the input
 abbrev pub HaveFaultyAnswer : Words → List ℕ → Type 0

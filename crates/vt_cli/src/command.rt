@@ -1,14 +1,16 @@
-//! The words of the command line.
-ghost use Rattle.std.specs.Prelude.{◌≡◌, map, string_bytes};
-ghost use Rattle.vt_cli.specs.Outcome.{command_of, reads, wants_input};
+//! The commands.
+ghost use Rattle.std.specs.Prelude.{◌≡◌};
+ghost use Rattle.vt_cli.specs.Outcome.{reads, wants_input};
 
 /// What the program is asked to do.
 #[derive(Clone, Copy, PartialEq, Eq)]
 pub enum Command {
     /// Write the score of the piece in the input.
     Render,
-    /// Tell whether the text in the input can be read.
+    /// Tell of each text of the session in the input whether it can be read and is allowed.
     Check,
+    /// Write a generated session.
+    Gen { seed: u64, loops: u32, beats: u32 },
 }
 
 impl Command {
@@ -19,25 +21,8 @@ impl Command {
         match self {
             Command::Render => true,
             Command::Check => true,
+            Command::Gen { .. } => false,
         }
-    }
-}
-
-/// The command that the words are, if they are one.
-pub fn command_of(words: &[String]) -> Option<Command>
-    ensures { result ≡ command_of (map string_bytes words.now) }
-{
-    match words {
-        [word] => {
-            if word.as_str() == "render" {
-                Some(Command::Render)
-            } else if word.as_str() == "check" {
-                Some(Command::Check)
-            } else {
-                None
-            }
-        }
-        _ => None,
     }
 }
 

@@ -99,7 +99,7 @@ fn sleep_of(number: Result<Frac, DecimalFault>) -> Line
 }
 
 /// Whether a word of a line is digits alone, at least one.
-fn are_line_digits(word: &[u8]) -> bool
+pub fn are_line_digits(word: &[u8]) -> bool
     ensures { result ≡ are_digits word.now }
 {
     !word.is_empty() && all_digits(word)

@@ -1,17 +1,20 @@
-//! The program: it renders a piece, or tells whether a text is read and allowed, as its words say.
+//! The program: it renders a piece, checks the texts of a session, or writes a generated one, as its words say.
 #![tactic(auto)]
 
 mod answer;
+mod check;
 mod command;
+mod gen_words;
 mod laws;
 mod line;
+mod options;
 mod perform;
 mod piece;
 mod status;
 #[cfg(test)]
 mod tests;
 mod transfer;
-mod verdict;
+mod words;
 
 use command::Command;
 use perform::perform;

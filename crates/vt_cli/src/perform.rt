@@ -5,14 +5,29 @@ ghost use Rattle.vt_io.specs.Faults.{HasCause, Rose};
 ghost use Rattle.vt_cli.specs.Reading.{limit, part_read, part_left, ReadsNoFurther};
 ghost use Rattle.vt_cli.specs.Ending.{AppendsPart, IsDecided, IsAnswerFormed, ExactlyWhere};
 ghost use Rattle.vt_cli.specs.Outcome.{AnswerView, wants_input, usage, heard};
-ghost use Rattle.vt_cli.specs.Words.{HaveFaultyAnswer, IsNoCommand, WantInput, WantNoInput, WantTooMuch, outcome_of_words};
+ghost use Rattle.vt_cli.specs.Commands.{IsInLimits, command_of};
+ghost use Rattle.vt_cli.specs.Words.{HaveFaultyAnswer, IsNoCommand, HaveBadSession, WantInput, WantNoInput, WantTooMuch, bytes_of, outcome_of_words};
 
 use crate::answer::{Answer, answer_of};
-use crate::command::{command_of, wants_input};
+use crate::command::wants_input;
 use crate::transfer::{ReadError, read_all, write_all};
+use crate::words::{WordsFault, read_words};
 use crate::{Command, Status};
 use std::alloc::{AllocGlobal, Global};
+use vt_frac::NoMemory;
 use vt_io::{Sink, Source};
+
+/// The command that the words are, if they are one.
+fn command_of(alloc: Global, words: &[String]) -> Result<Option<Command>, NoMemory>
+    ensures command { IfOk result (λ command. command ≡ command_of (bytes_of words.now)) }
+    ensures within { IfOk result (λ command. IfSome command IsInLimits) }
+{
+    match read_words(alloc, words) {
+        Ok(command) => Ok(Some(command)),
+        Err(WordsFault::Usage) => Ok(None),
+        Err(WordsFault::NoMemory) => Err(NoMemory),
+    }
+}
 
 /// The bytes that count, as far as they are read.
 fn input_of<S: Source>(
@@ -50,7 +65,7 @@ fn due<S: Source>(alloc: Global, words: &[String], src: &mut S) -> Result<Answer
     ensures failed { IsErrOf result ReadError.Failed → WantInput words.now
         × Rose (S.faults src.old) (S.faults src.new) }
 {
-    let command = command_of(words);
+    let command = command_of(alloc, words)?;
     let input = input_of(alloc, command, src)?;
     Ok(answer_of(alloc, command, &input)?)
 }
@@ -117,6 +132,8 @@ pub fn perform<X: AllocGlobal, S: Source, K: Sink>(
     // The refusals of the input.
     ensures too_long { IfSome (S.left src.old) (λ input.
         ExactlyWhere result Status.TooLong (WantTooMuch words.now input)) }
+    ensures bad_session { IfSome (S.left src.old) (λ input.
+        ExactlyWhere result Status.BadSession (HaveBadSession words.now input)) }
     ensures faulty { IfSome (S.left src.old) (λ input.
         ExactlyWhere result Status.Faulty (HaveFaultyAnswer words.now input)) }
 

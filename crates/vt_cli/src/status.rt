@@ -11,6 +11,8 @@ pub enum Status {
     Usage = 1,
     /// The input is longer than 1,048,576 bytes.
     TooLong = 2,
+    /// The bytes are no session.
+    BadSession = 3,
     /// A read failed.
     ReadFault = 5,
     /// A write failed.

@@ -125,10 +125,12 @@ fn writes_that_fail_at_each_place(rt: HostRuntime) -> Result<(), Fail> {
 }
 
 #[test]
-fn words_that_are_none_leave_the_source_alone(rt: HostRuntime) -> Result<(), Fail> {
+fn words_that_ask_for_no_input_leave_the_source_alone(rt: HostRuntime) -> Result<(), Fail> {
     let mut src = ScriptSource::of(rt.alloc(), b"play 60", 16, &[1])?;
     let out = ScriptSink::of(rt.alloc(), 16, &[1], 200)?;
-    assert!(rt; ends_so(&rt, "gen", &mut src, out, 6, b"")?);
+    assert!(rt; ends_so(&rt, "gens", &mut src, out, 6, b"")?);
+    let out = ScriptSink::of(rt.alloc(), 16, &[2], 200)?;
+    assert!(rt; ends_so(&rt, "gen", &mut src, out, 6, b"# beats 16\nlive_")?);
     let mut unread = [b'?'; 9];
     assert_eq!(rt; src.read(&mut unread), Err(Failed), "the first call");
     assert_eq!(rt; src.read(&mut unread), Ok(7));

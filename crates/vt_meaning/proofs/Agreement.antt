@@ -15,14 +15,14 @@ use Rattle.vt_run.specs.declared.action.Action.TheVariants.{Emit, End, Read, Res
 use Rattle.vt_run.specs.declared.action.Answer.{Answer}
 use Rattle.vt_run.specs.declared.action.Answer.TheVariants.{Found, Nothing}
 use Rattle.vt_run.specs.declared.start.Start.{Start}
-use Rattle.vt_meaning.specs.Bounds.{Clear, GoesOn, Quiet, StandsBelow}
+use Rattle.vt_meaning.specs.Bounds.{Clear, Quiet, StandsBelow}
 use Rattle.vt_meaning.specs.Consistent.{IsConsistent}
 use Rattle.vt_meaning.specs.Happenings.{Acted, Begun, Emitted, Happened, IsFirst, IsLast}
 use Rattle.vt_meaning.specs.LookUps.{matches_event}
+use Rattle.vt_meaning.specs.NextPlaces.{GoesOn}
 use Rattle.vt_meaning.specs.Places.{Before, NoLater, Upto}
 use Rattle.vt_meaning.specs.ThreadMeaning.{meets, ThreadMeaning, Wants}
 use Rattle.vt_meaning.specs.Traces.{after_action, after_rest, after_step, after_wait, Entry, is_ask, MovesOn, rested, stance_in, Thread, trace, wait_for, waiting, wake}
-use Rattle.vt_meaning.specs.Turns.{woken}
 use Rattle.vt_meaning.specs.World.{Opening}
 use Rattle.vt_meaning.proofs.Order.{before-trans, before-irrefl, before-cases, before-wake, before-next_step, before-upto, before_upto, upto_same, upto_split, upto-trans, not_both, upto_time, no_later_same}
 use Rattle.vt_meaning.proofs.Traces.{after_met, one_ready, standing_more, At, IsSane, rises, rises_after, at_start, stand_at, one_up, moved_upto, asks_by, waits_by}

@@ -10,9 +10,10 @@ use Rattle.vt_run.specs.declared.action.Action.{Action}
 use Rattle.vt_run.specs.declared.action.Action.TheVariants.{Emit, Read}
 use Rattle.vt_run.specs.declared.action.Answer.{Answer}
 use Rattle.vt_run.specs.declared.action.Answer.TheVariants.{Found}
-use Rattle.vt_meaning.specs.Bounds.{Clear, GoesOn, Quiet, StandsBelow}
+use Rattle.vt_meaning.specs.Bounds.{Clear, Quiet, StandsBelow}
 use Rattle.vt_meaning.specs.Consistent.{got, has_answer, IsConsistent, IsExact}
 use Rattle.vt_meaning.specs.Happenings.{Happened, IsFirst, IsLast}
+use Rattle.vt_meaning.specs.NextPlaces.{GoesOn}
 use Rattle.vt_meaning.specs.Places.{Before, Upto}
 use Rattle.vt_meaning.specs.Reach.{IsKnown}
 use Rattle.vt_meaning.specs.ThreadLaws.{IsLawful, IsLive}

@@ -9,10 +9,11 @@ use Rattle.vt_run.specs.Standing.{Asks, Asleep, next_step, Over, Ready, Stance, 
 use Rattle.vt_run.specs.declared.action.Action.TheVariants.{Emit, Read}
 use Rattle.vt_run.specs.declared.action.Answer.{Answer}
 use Rattle.vt_run.specs.declared.action.Answer.TheVariants.{Found}
-use Rattle.vt_meaning.specs.Bounds.{Clear, Disturbs, GoesOn, IsCandidate, Quiet, StandsBelow}
+use Rattle.vt_meaning.specs.Bounds.{Clear, Disturbs, IsCandidate, Quiet, StandsBelow}
 use Rattle.vt_meaning.specs.Bounds.Disturbs.{Feeds, Writes}
 use Rattle.vt_meaning.specs.Consistent.{IsConsistent}
 use Rattle.vt_meaning.specs.Happenings.{Happened, IsFirst, IsLast}
+use Rattle.vt_meaning.specs.NextPlaces.{GoesOn}
 use Rattle.vt_meaning.specs.Places.{Before, Upto}
 use Rattle.vt_meaning.specs.Reach.{IsKnown}
 use Rattle.vt_meaning.specs.Steps.{Follows}

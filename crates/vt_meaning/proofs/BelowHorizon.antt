@@ -19,7 +19,6 @@ use Rattle.vt_meaning.specs.Places.{Before, Earlier}
 use Rattle.vt_meaning.specs.ThreadLaws.{IsLawful}
 use Rattle.vt_meaning.specs.ThreadMeaning.{ThreadMeaning, Wants}
 use Rattle.vt_meaning.specs.Traces.{after_rest, after_step, MovesOn, rested, Thread, trace, wait_for, wake, woken_by}
-use Rattle.vt_meaning.specs.Turns.{woken}
 use Rattle.vt_meaning.specs.World.{Opening}
 use Rattle.vt_meaning.proofs.Order.{before-wake}
 use Rattle.vt_meaning.proofs.Horizon.{before_horizon, fraction_lowest, sum_lowest}

@@ -7,7 +7,7 @@ use Rattle.vt_event.specs.declared.place.Place.{Place}
 use Rattle.vt_frac.specs.Fraction.{Fraction}
 use Rattle.vt_run.specs.Standing.{action_place, Ready}
 use Rattle.vt_run.specs.declared.start.Start.{Start}
-use Rattle.vt_meaning.specs.Causal.{AgreeBelow, IsWithin, lines_below, living, score, SessionsAgree, StoresWithin}
+use Rattle.vt_meaning.specs.Causal.{AgreeBelow, IsWithin, lines_below, living, score, SessionsAgree, StoresWithin, AgreeThere, SessionsAgreeByReach}
 use Rattle.vt_meaning.specs.Consistent.{IsConsistent}
 use Rattle.vt_meaning.specs.Meaning.{Ending, ending_of, is_event_before}
 use Rattle.vt_meaning.specs.Meaning.Ending.{Ends, OverBudget}
@@ -24,7 +24,7 @@ use Rattle.vt_meaning.proofs.FrontAndBounds.{IsApart, unlisted}
 use Rattle.vt_meaning.proofs.ScoresInOrder.{events_never, events_onward, ordered_from, living_same}
 use Rattle.vt_meaning.proofs.Order.{earlier-no_later, no_later_same}
 use Rattle.vt_meaning.proofs.FinishedStores.{means}
-use Rattle.vt_meaning.proofs.KeptByTurns.{opening_consistent}
+use Rattle.vt_meaning.proofs.KeptByTransitions.{opening_consistent}
 use Rattle.vt_meaning.proofs.Traces.{At}
 use Rattle.vt_meaning.proofs.SharedSessions.{itself, Shares, flip}
 use Rattle.vt_meaning.proofs.Agreement.{overlap}
@@ -32,8 +32,8 @@ use Rattle.vt_meaning.proofs.Ranks.{all_places, covers, rank}
 use Rattle.vt_meaning.proofs.FinishedAgree.{agree, agree_by, begun_by, total_by}
 use Rattle.vt_meaning.proofs.BelowHorizon.{within, event_below}
 use Rattle.vt_meaning.proofs.FreeThreads.{freely, freely_means, freely_score, freely_living, freely_total, session_freely, within_freely, agree_freely}
-use Rattle.vt_meaning.proofs.EarlyEvents.{shares_below, score_below, all_below}
-use Rattle.vt_meaning.proofs.TurnsEnded.{IsRight, ends_right, ends_if}
+use Rattle.vt_meaning.proofs.EarlyEvents.{shares_below, shares_reached, score_below, all_below}
+use Rattle.vt_meaning.proofs.TransitionsEnded.{IsRight, ends_right, ends_if}
 
 -- the ending of a session where everything may be written
 module _ (m : ThreadMeaning) (opening : Opening) (s : IsSession m opening) where
@@ -160,9 +160,9 @@ left_out fit known m m' opening opening' s s' w w' u g bud = (
         ends m' opening' s'
         (λ those consistent. let c = costs_less m.until m' m opening' opening s' s shared w' (no_later_same m'.until m.until (sym u)) those consistent ws a in let d = a.within in omega (arith, c, d, bud))
 
--- **two stores of sessions that share what stands below a time agree there**
-pub sessions_agree : SessionsAgree
-sessions_agree t fit known m m' opening opening' s s' g all all' these those these_hold those_hold = (
+-- two stores of sessions that share what stands below a time agree there
+agree_there : (t : Fraction) (m m' : ThreadMeaning) (opening opening' : Opening) → Shares (λ n. Earlier n t) m m' opening opening' → (these those : List Thread) → IsConsistent m opening these → IsConsistent m' opening' those → AgreeThere t m m' opening' these those
+agree_there t m m' opening opening' shared these those these_hold those_hold = (
   λ k l i a b p r ah bh st la lb pa rb lt.
       overlap (λ n. Earlier n t) places (suc (rank places p)) m m' opening opening' shared these those these_hold those_hold
       (λ c j y d h. Contains-append_left (all_places m these) (all_places m' those) (action_place d) (covers m these c j y d h))
@@ -173,11 +173,18 @@ sessions_agree t fit known m m' opening opening' s s' g all all' these those the
       (d.at, d.thread, d.entry, d.has, d.start, d.before, d.did, d.step),
 )
   where
-    shared : Shares (λ n. Earlier n t) m m' opening opening'
-    shared = shares_below t fit known m m' opening opening' g (acts_lawful m s.acts) (acts_lawful m' s'.acts) all all'
-
     places : List Place
     places = all_places m these ++ all_places m' those
+
+-- **where everything may be written**
+pub sessions_agree : SessionsAgree
+sessions_agree t fit known m m' opening opening' s s' g all all' these those these_hold those_hold =
+    agree_there t m m' opening opening' (shares_below t fit known m m' opening opening' g (acts_lawful m s.acts) (acts_lawful m' s'.acts) all all') these those these_hold those_hold
+
+-- **and by reach**
+pub sessions_agree_by_reach : SessionsAgreeByReach
+sessions_agree_by_reach t fit known m m' opening opening' s s' g g' may may' these those these_hold those_hold =
+    agree_there t m m' opening opening' (shares_reached t fit known m m' opening opening' g g' may may' (acts_lawful m s.acts) (acts_lawful m' s'.acts)) these those these_hold those_hold
 
 -- **two stores of one session agree**
 pub stores_agree : StoresAgree

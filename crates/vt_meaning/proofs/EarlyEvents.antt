@@ -1,22 +1,26 @@
 -- The events below a time, of two sessions that agree below it; everything may be written here.
-use Rattle.std.proofs.Common.{◌≡◌, List, [], ◌∷◌, ◌++◌, refl, sym, ◌∙◌, ap, inl, inr, arith, Bool, true, false, subst}
-use Rattle.std.specs.Prelude.{Contains, cond}
+use Rattle.std.proofs.Common.{◌≡◌, ℕ, List, [], ◌∷◌, ◌++◌, refl, sym, ◌∙◌, ap, inl, inr, arith, Bool, true, false, subst}
+use Rattle.std.specs.Prelude.{Contains, cond, Some, slice_get}
 use Rattle.std.proofs.lemmas.Option.{slice_get_within}
 use Rattle.vt_event.specs.Event.{EventView}
 use Rattle.vt_frac.specs.Fraction.{Fraction}
 use Rattle.vt_path.specs.declared.pattern.Segment.{Segment}
-use Rattle.vt_run.specs.declared.action.Action.TheVariants.{Emit}
+use Rattle.vt_run.specs.declared.action.Action.TheVariants.{Emit, Spawn}
 use Rattle.vt_run.specs.declared.start.Start.{Start}
-use Rattle.vt_meaning.specs.Bounds.{IsFinished}
-use Rattle.vt_meaning.specs.Causal.{AgreeBelow, lines_below, score}
+use Rattle.vt_run.specs.declared.action.Action.{Action}
+use Rattle.vt_run.specs.Standing.{action_place}
+use Rattle.vt_event.specs.declared.place.Place.{Place}
+use Rattle.vt_meaning.specs.Reach.{IsFedBy}
+use Rattle.vt_meaning.specs.Causal.{AgreeBelow, lines_below, score, MayToo}
 use Rattle.vt_meaning.specs.Consistent.{IsConsistent}
 use Rattle.vt_meaning.specs.Disturbers.{sift}
 use Rattle.vt_meaning.specs.Happenings.{Happened}
 use Rattle.vt_meaning.specs.Meaning.{in_order, is_event_before}
+use Rattle.vt_meaning.specs.NextPlaces.{IsFinished}
 use Rattle.vt_meaning.specs.Places.{Earlier, is_earlier, NoLater}
 use Rattle.vt_meaning.specs.ThreadLaws.{IsLawful}
 use Rattle.vt_meaning.specs.ThreadMeaning.{ThreadMeaning}
-use Rattle.vt_meaning.specs.Traces.{Thread, trace}
+use Rattle.vt_meaning.specs.Traces.{Thread, trace, Entry}
 use Rattle.vt_meaning.specs.World.{events_of, Opening}
 use Rattle.vt_meaning.proofs.Order.{upto_time, before_upto, true-is_before, earlier-cases, earlier-irrefl, earlier-no_later, earlier_no_later, is_earlier-true, no_later-earlier, no_later-trans, no_later_same, true-is_earlier}
 use Rattle.vt_meaning.proofs.Ranks.{acted_at}
@@ -49,6 +53,38 @@ shares_below t fit known m m' opening opening' g law law' all all' =
       passes = λ those those_hold l i b x p start pattern bh d is lt may. all b.start pattern;
       writes_back = λ those those_hold l i b x f pattern bh d is lt matched. all' b.start pattern;
       passes_back = λ those those_hold l i b x p start pattern bh d is lt may. all' b.start pattern;
+    }
+
+-- a thread that acts at such a time was told what stands below it
+fed_acting : (t : Fraction) (fit : Start → Bool) (known : EventView → Bool) (m m' : ThreadMeaning) (opening opening' : Opening) → AgreeBelow t fit known m m' opening opening' → IsLawful m → (these : List Thread) → IsConsistent m opening these →
+    (k i : ℕ) (thread : Thread) (entry : Entry) (action : Action) → slice_get these k ≡ Some thread → slice_get (trace m thread) i ≡ Some entry → entry.step.action ≡ Some action → Earlier (action_place action).time t → IsFedBy fit known m thread i
+fed_acting t fit known m m' opening opening' g law these hold k i thread entry action has did is lt =
+    let here = law.placed thread i entry did in
+    let w = slice_get_within (trace m thread) i entry did in
+    let soon : Earlier here.0.time t = subst (λ (p : Place). Earlier p.time t) (here.2 action is) lt in
+    fed_by (λ n. Earlier n t) (λ n h le lt. no_later-earlier n h t le lt) fit known m law opening (λ start lt h. g.early start lt h) (λ e lt h. g.heard e lt h) (λ b j z e pattern f d is lt matched. g.knows b j z e pattern f d is lt matched) (λ b j z c start f d is lt. g.breeds b j z c start f d is lt) these hold k i thread here.0 has (omega (arith, w)) here.1 soon
+
+pub shares_reached : (t : Fraction) (fit : Start → Bool) (known : EventView → Bool) (m m' : ThreadMeaning) (opening opening' : Opening) → AgreeBelow t fit known m m' opening opening' → AgreeBelow t fit known m' m opening' opening → MayToo t fit known m m' → MayToo t fit known m' m →
+    IsLawful m → IsLawful m' → Shares (λ n. Earlier n t) m m' opening opening'
+shares_reached t fit known m m' opening opening' g g' may may' law law' =
+    record {
+      law = law;
+      law_back = law';
+      earlier = λ n k le lt. no_later-earlier n k t le lt;
+      horizon = g.horizon;
+      starts = λ start lt. (g.starts start lt).0;
+      starts_back = λ start lt. (g.starts start lt).1;
+      given = λ e lt. (g.given e lt).0;
+      given_back = λ e lt. (g.given e lt).1;
+      same =
+          λ these those these_hold those_hold k l i a b x y p r ah bh st al xd yd pa ra ps rs.
+          let w = slice_get_within (trace m a) i x xd in
+          let f = fed_by (λ n. Earlier n t) (λ n h le lt. no_later-earlier n h t le lt) fit known m law opening (λ start lt h. g.early start lt h) (λ e lt h. g.heard e lt h) (λ b j z e pattern f d is lt matched. g.knows b j z e pattern f d is lt matched) (λ b j z c start f d is lt. g.breeds b j z c start f d is lt) these these_hold k i a p ah (omega (arith, w)) pa ps in
+          g.same a b i x y p st f al xd yd pa ps;
+      writes = λ those those_hold l i b x f pattern bh d is lt matched. may.writes b i x f pattern (fed_acting t fit known m' m opening' opening g' law' those those_hold l i b x (Emit f) bh d is lt) d is lt matched;
+      passes = λ those those_hold l i b x p start pattern bh d is lt own. may.passes b i x p start pattern (fed_acting t fit known m' m opening' opening g' law' those those_hold l i b x (Spawn p start) bh d is lt) d is lt own;
+      writes_back = λ those those_hold l i b x f pattern bh d is lt matched. may'.writes b i x f pattern (fed_acting t fit known m m' opening opening' g law those those_hold l i b x (Emit f) bh d is lt) d is lt matched;
+      passes_back = λ those those_hold l i b x p start pattern bh d is lt own. may'.passes b i x p start pattern (fed_acting t fit known m m' opening opening' g law those those_hold l i b x (Spawn p start) bh d is lt) d is lt own;
     }
 
 -- **a finished set has each such event of another one**

@@ -11,9 +11,9 @@ use Rattle.vt_run.specs.declared.action.Action.{Action}
 use Rattle.vt_run.specs.declared.action.Action.TheVariants.{Emit, End, Read, Rest, Spawn, Wait}
 use Rattle.vt_run.specs.declared.action.Answer.{Answer}
 use Rattle.vt_run.specs.declared.action.Answer.TheVariants.{Found}
-use Rattle.vt_meaning.specs.Bounds.{GoesOn, IsFinished}
 use Rattle.vt_meaning.specs.Consistent.{IsConsistent}
 use Rattle.vt_meaning.specs.Happenings.{Emitted, Happened}
+use Rattle.vt_meaning.specs.NextPlaces.{GoesOn, IsFinished}
 use Rattle.vt_meaning.specs.Places.{Before}
 use Rattle.vt_meaning.specs.Reach.{IsKnown}
 use Rattle.vt_meaning.specs.ThreadLaws.{is_spawn, IsGivenApart, IsLawful, IsLive, IsOrderly}

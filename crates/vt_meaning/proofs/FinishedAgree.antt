@@ -10,9 +10,10 @@ use Rattle.vt_event.specs.declared.place.Place.{Place}
 use Rattle.vt_frac.specs.Fraction.{Fraction}
 use Rattle.vt_run.specs.Standing.{action_place}
 use Rattle.vt_run.specs.declared.action.Action.TheVariants.{Spawn}
-use Rattle.vt_meaning.specs.Bounds.{Clear, IsFinished}
+use Rattle.vt_meaning.specs.Bounds.{Clear}
 use Rattle.vt_meaning.specs.Consistent.{IsConsistent}
 use Rattle.vt_meaning.specs.Happenings.{Begun}
+use Rattle.vt_meaning.specs.NextPlaces.{IsFinished}
 use Rattle.vt_meaning.specs.Reach.{IsKnown}
 use Rattle.vt_meaning.specs.ThreadLaws.{IsLawful}
 use Rattle.vt_meaning.specs.ThreadMeaning.{ThreadMeaning}

@@ -1,24 +1,24 @@
 -- The meaning of a session and its stores.
 use Rattle.std.proofs.Common.{refl, ◌≡◌, ◌+◌, ◌*◌, ◌≤◌, List, sym, ◌∙◌, ap, ◌⊎◌, arith}
 use Rattle.vt_event.specs.declared.score.Outcome.TheVariants.{Scored}
-use Rattle.vt_meaning.specs.Bounds.{IsFinished}
 use Rattle.vt_meaning.specs.Consistent.{IsConsistent}
 use Rattle.vt_meaning.specs.Meaning.{Ending, ending_of, in_order, is_event_before, is_living_before, living_in, meaning_by, outcome_of, score_of}
 use Rattle.vt_meaning.specs.Meaning.Ending.{Ends, OverBudget}
 use Rattle.vt_meaning.specs.Means.{Means}
+use Rattle.vt_meaning.specs.NextPlaces.{IsFinished}
 use Rattle.vt_meaning.specs.Reach.{IsKnown}
 use Rattle.vt_meaning.specs.Theorems.{Same}
 use Rattle.vt_meaning.specs.ThreadLaws.{IsGivenApart, IsLawful, IsLive, IsOrderly, IsStartsApart}
 use Rattle.vt_meaning.specs.ThreadMeaning.{ThreadMeaning}
 use Rattle.vt_meaning.specs.Traces.{standing, Thread, trace}
 use Rattle.vt_meaning.specs.World.{events_of, Opening, opening_world, total_of}
-use Rattle.vt_meaning.proofs.TurnsEnded.{ends_right}
-use Rattle.vt_meaning.proofs.KeptByTurns.{opening_consistent, means_ends, within_budget}
+use Rattle.vt_meaning.proofs.TransitionsEnded.{ends_right}
+use Rattle.vt_meaning.proofs.KeptByTransitions.{opening_consistent, means_ends, within_budget}
 use Rattle.vt_meaning.proofs.EventPlaces.{same_trace, events_over, apart}
 use Rattle.vt_meaning.proofs.FrontAndBounds.{IsApart, listed, unlisted}
 use Rattle.vt_meaning.proofs.ScoresInOrder.{events_never, events_onward, in_order_same, living_same, same_place}
 use Rattle.vt_meaning.proofs.FinishedAgree.{begun_there}
-use Rattle.vt_meaning.proofs.FunctionTurns.{turns_mean}
+use Rattle.vt_meaning.proofs.FunctionTransitions.{transitions_mean}
 
 -- two scores with the same events and the same that live on
 score_of_parts : (m m' : ThreadMeaning) (opening opening' : Opening) (these those : List Thread) → in_order is_event_before (events_of m opening these) ≡ in_order is_event_before (events_of m' opening' those) →
@@ -60,7 +60,7 @@ same m law opening knowns these those these_hold those_hold these_end those_end 
 module _ (m : ThreadMeaning) (law : IsLawful m) (live : IsLive m) (opening : Opening) (knowns : IsKnown m opening) (ok : IsOrderly opening) (given : IsGivenApart opening) (texts : IsStartsApart opening) where
   pub means : Means m opening (opening_world opening) (ending_of m opening)
   unfolding ending_of
-  means = turns_mean m law live opening knowns ok given (2 * opening.budget + 2) (opening_world opening) (opening_consistent m live opening texts) (omega arith)
+  means = transitions_mean m law live opening knowns ok given (2 * opening.budget + 2) (opening_world opening) (opening_consistent m live opening texts) (omega arith)
 
   -- **a finished store within the budget is the world at the end, up to the order of its threads**
   pub finished_store : (those : List Thread) → IsConsistent m opening those → IsFinished m opening those → total_of m those ≤ opening.budget →

@@ -14,7 +14,7 @@ use Rattle.vt_meaning.proofs.StepLaws.{acts_lawful, acts_live}
 use Rattle.vt_meaning.proofs.EventPlaces.{apart, later, list_of, not_given}
 use Rattle.vt_meaning.proofs.FrontAndBounds.{first_found, first_is, FirstIs, IsApart, listed}
 use Rattle.vt_meaning.proofs.OwnPlaces.{events_own}
-use Rattle.vt_meaning.proofs.FunctionTurns.{last_found, last_is}
+use Rattle.vt_meaning.proofs.FunctionTransitions.{last_found, last_is}
 
 first_there : (m : ThreadMeaning) (opening : Opening) (threads : List Thread) (place : Place) (wants : Wants) → IsApart m opening threads → (found : Option EventView) → FirstIs m place wants (events_of m opening threads) found →
     FirstOr m opening threads place wants found

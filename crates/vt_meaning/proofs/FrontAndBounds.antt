@@ -7,18 +7,19 @@ use Rattle.vt_event.specs.declared.place.Place.{Place}
 use Rattle.vt_run.specs.Standing.{Asks, Asleep, Over, Ready, Stance, Waits}
 use Rattle.vt_run.specs.declared.action.Action.{Action}
 use Rattle.vt_run.specs.declared.action.Action.TheVariants.{Emit, End, Read, Rest, Spawn, Wait}
-use Rattle.vt_meaning.specs.Bounds.{GoesOn, IsFinal, IsFinished}
+use Rattle.vt_meaning.specs.Bounds.{IsBound, IsFront, place_of_front}
 use Rattle.vt_meaning.specs.Happenings.{Emitted, Happened, IsFirst}
 use Rattle.vt_meaning.specs.LookUps.{first_above, lower, meets_wants}
+use Rattle.vt_meaning.specs.NextPlaces.{GoesOn, NoneSooner, IsFinished, place_in, sooner, soonest, woken_at}
 use Rattle.vt_meaning.specs.Places.{Before, is_before, Upto}
 use Rattle.vt_meaning.specs.Steps.{Due}
 use Rattle.vt_meaning.specs.Steps.Due.{ReadDue, StepDue, WaitDue}
+use Rattle.vt_meaning.specs.Theorems.{BoundsAreLeast, BoundsAreOne, FrontIsLeast, FrontsAreOne}
 use Rattle.vt_meaning.specs.ThreadMeaning.{meets, patterns_of, ThreadMeaning, Wants, with_stop}
 use Rattle.vt_meaning.specs.Traces.{Entry, stance_in, Thread, trace, waiting, wake}
-use Rattle.vt_meaning.specs.Turns.{place_in, sooner, soonest, woken_at}
 use Rattle.vt_meaning.specs.World.{emitted_by, emitted_in, emitted_one, events_of, Opening}
 use Rattle.vt_meaning.proofs.Writers.{final_quiet}
-use Rattle.vt_meaning.proofs.Order.{before-cases, before-upto, upto-trans, before_upto, upto_same, is_before-true, true-is_before, before-wake, wake-upto, upto_split}
+use Rattle.vt_meaning.proofs.Order.{before-cases, before-upto, not_both, upto-trans, before_upto, upto_same, is_before-true, true-is_before, before-wake, wake-upto, upto_split}
 use Rattle.vt_meaning.proofs.Lists.{none_some}
 
 -- of two places one is not above the other
@@ -197,12 +198,7 @@ first_found m opening these place wants event apart h =
     }
 
 -- a thread goes on at the place that is computed, or nowhere
-unfoldable pub BoundIs : ThreadMeaning → Opening → List Thread → Stance → Option Place → Type 0
-BoundIs m opening these s None = (place : Place) → GoesOn m opening these s place → ⊥
-BoundIs m opening these s (Some b) = GoesOn m opening these s b × ((place : Place) → GoesOn m opening these s place → Upto b place)
-
-pub bound_is : (m : ThreadMeaning) (opening : Opening) (these : List Thread) (s : Stance) → BoundIs m opening these s (place_in (events_of m opening these) s)
-unfolding BoundIs
+pub bound_is : (m : ThreadMeaning) (opening : Opening) (these : List Thread) (s : Stance) → IsBound m opening these s (place_in (events_of m opening these) s)
 bound_is m opening these (Ready p) = (refl, λ c on. upto_same p c (sym on))
 bound_is m opening these (Asks p q) = (refl, λ c on. upto_same p c (sym on))
 bound_is m opening these (Asleep n) = λ c on. on
@@ -212,7 +208,7 @@ bound_is m opening these (Waits p c d) = go (first_above (events_of m opening th
     q : Wants
     q = record { pattern = c; stop = d }
 
-    go : (r : Option EventView) → FirstIs m p q (events_of m opening these) r → BoundIs m opening these (waiting p q) (woken_at p r)
+    go : (r : Option EventView) → FirstIs m p q (events_of m opening these) r → IsBound m opening these (waiting p q) (woken_at p r)
     go None h = λ c on. h on.0 (listed m opening these on.0 on.1.happened) on.1.matches on.1.above
     go (Some e) h = (
       (e, record { happened = unlisted m opening these e h.has; matches = h.matches; above = h.above }, refl),
@@ -228,7 +224,7 @@ SoonestIs m opening all these (Some r) k =
     × ((i : ℕ) (twin : Thread) (place : Place) → slice_get these i ≡ Some twin → GoesOn m opening all (stance_in m twin) place → Upto r.1 place)
 
 soonest_is : (m : ThreadMeaning) (opening : Opening) (all these : List Thread) (k : ℕ) → SoonestIs m opening all these (soonest m (events_of m opening all) k these) k
-unfolding SoonestIs BoundIs
+unfolding SoonestIs
 soonest_is m opening all [] k = λ j t place e on. none_some e
 soonest_is m opening all (t ∷ these) k =
     go (place_in (events_of m opening all) (stance_in m t)) refl (bound_is m opening all (stance_in m t)) (soonest m (events_of m opening all) (k + 1) these) (soonest_is m opening all these (k + 1))
@@ -247,7 +243,7 @@ soonest_is m opening all (t ∷ these) k =
       ],
     )
 
-    mine : (p : Place) → place_in (events_of m opening all) (stance_in m t) ≡ Some p → BoundIs m opening all (stance_in m t) (Some p) →
+    mine : (p : Place) → place_in (events_of m opening all) (stance_in m t) ≡ Some p → IsBound m opening all (stance_in m t) (Some p) →
         ((i : ℕ) (thread : Thread) (place : Place) → slice_get these i ≡ Some thread → GoesOn m opening all (stance_in m thread) place → Upto p place) → SoonestIs m opening all (t ∷ these) (Some (k, p)) k
     mine p b h low = (
       0,
@@ -262,7 +258,7 @@ soonest_is m opening all (t ∷ these) k =
       ],
     )
 
-    go : (b : Option Place) → place_in (events_of m opening all) (stance_in m t) ≡ b → BoundIs m opening all (stance_in m t) b → (r : Option (ℕ × Place)) → SoonestIs m opening all these r (k + 1) →
+    go : (b : Option Place) → place_in (events_of m opening all) (stance_in m t) ≡ b → IsBound m opening all (stance_in m t) b → (r : Option (ℕ × Place)) → SoonestIs m opening all these r (k + 1) →
         SoonestIs m opening all (t ∷ these) (sooner k b r) k
     go None e h None s =
         λ j t' place. elim j as (λ n. slice_get (t ∷ these) n ≡ Some t' → GoesOn m opening all (stance_in m t') place → ⊥)
@@ -281,7 +277,7 @@ pub record Acts (m : ThreadMeaning) (opening : Opening) (these : List Thread) (k
   pub has : slice_get these k ≡ Some thread
   pub bound : place_in (events_of m opening these) (stance_in m thread) ≡ Some place
   pub on : GoesOn m opening these (stance_in m thread) place
-  pub final : IsFinal m opening these place
+  pub final : NoneSooner m opening these place
 
 pub soonest_some : (m : ThreadMeaning) (opening : Opening) (these : List Thread) (k : ℕ) (place : Place) → soonest m (events_of m opening these) 0 these ≡ Some (k, place) → Acts m opening these k place
 unfolding SoonestIs
@@ -295,6 +291,41 @@ unfolding SoonestIs
 soonest_none m opening these e =
     let h : SoonestIs m opening these these None 0 = subst (λ r. SoonestIs m opening these these r 0) e (soonest_is m opening these these 0) in
     λ k t b has on. h k t b has on
+
+-- **the place that is computed is the bound of a thread, and the soonest one the front**
+pub bounds_are_least : BoundsAreLeast
+bounds_are_least m opening these stance = bound_is m opening these stance
+
+pub front_is_least : FrontIsLeast
+front_is_least m opening these = go (soonest m (events_of m opening these) 0 these) refl
+  where
+    go : (o : Option (ℕ × Place)) → soonest m (events_of m opening these) 0 these ≡ o → IsFront m opening these o
+    go None e = soonest_none m opening these e
+    go (Some r) e =
+        let a = soonest_some m opening these r.0 r.1 e in
+        (a.thread, a.has, subst (IsBound m opening these (stance_in m a.thread)) a.bound (bound_is m opening these (stance_in m a.thread)), a.final)
+
+-- two places of which none is above the other are one
+one_place : (place q : Place) → Upto place q → Upto q place → place ≡ q
+one_place place q low high = elim (upto_split place q low) [ inl same ↦ same | inr lt ↦ absurd (not_both place q lt high) ]
+
+pub bounds_are_one : BoundsAreOne
+bounds_are_one m opening these stance = go
+  where
+    go : (one other : Option Place) → IsBound m opening these stance one → IsBound m opening these stance other → one ≡ other
+    go None None h k = refl
+    go None (Some b) h k = absurd (h b k.0)
+    go (Some a) None h k = absurd (k a h.0)
+    go (Some a) (Some b) h k = ap (λ (p : Place). Some p) (one_place a b (h.1 b k.0) (k.1 a h.0))
+
+pub fronts_are_one : FrontsAreOne
+fronts_are_one m opening these = go
+  where
+    go : (one other : Option (ℕ × Place)) → IsFront m opening these one → IsFront m opening these other → place_of_front one ≡ place_of_front other
+    go None None h k = refl
+    go None (Some b) h k = absurd (h b.0 k.0 b.1 k.1 k.2.0)
+    go (Some a) None h k = absurd (k a.0 h.0 a.1 h.1 h.2.0)
+    go (Some a) (Some b) h k = ap (λ (p : Place). Some p) (one_place a.1 b.1 (h.3 b.0 k.0 b.1 k.1 k.2.0) (k.3 a.0 h.0 a.1 h.1 h.2.0))
 
 pub first_of_wait : (m : ThreadMeaning) (opening : Opening) (these : List Thread) (place : Place) (wants : Wants) (p : Place) → IsApart m opening these → woken_at place (first_above (events_of m opening these) place (patterns_of wants)) ≡ Some p →
     (event : EventView) × IsFirst m opening these place wants event × (wake event place ≡ p)
@@ -312,7 +343,7 @@ progress m opening these apart k thread place has on = go (soonest m (events_of 
     due j p a (Ready r) e = StepDue j a.thread r a.has e
     due j p a (Asks r q) e =
         let z : p ≡ r = subst (λ s. GoesOn m opening these s p) e a.on in
-        ReadDue j a.thread r q a.has e (final_quiet m opening these r q (subst (IsFinal m opening these) z a.final))
+        ReadDue j a.thread r q a.has e (final_quiet m opening these r q (subst (NoneSooner m opening these) z a.final))
     due j p a (Waits r c d) e =
         let q : Wants = record { pattern = c; stop = d } in
         let w : woken_at r (first_above (events_of m opening these) r (patterns_of q)) ≡ Some p = subst (λ s. place_in (events_of m opening these) s ≡ Some p) e a.bound in

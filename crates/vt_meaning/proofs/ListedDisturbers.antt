@@ -6,18 +6,18 @@ use Rattle.vt_event.specs.declared.place.Place.{Place}
 use Rattle.vt_path.specs.declared.pattern.Segment.{Segment}
 use Rattle.vt_run.specs.Standing.{Asks, Asleep, Over, Ready, Stance, Waits}
 use Rattle.vt_run.specs.declared.start.Start.{Start}
-use Rattle.vt_meaning.specs.Bounds.{Disturbs, GoesOn, IsCandidate, Quiet, StandsBelow}
+use Rattle.vt_meaning.specs.Bounds.{Disturbs, IsBound, IsCandidate, Quiet, StandsBelow}
 use Rattle.vt_meaning.specs.Bounds.Disturbs.{Feeds, Writes}
 use Rattle.vt_meaning.specs.Disturbers.{any_below, disturbers, disturbers_in, is_below, is_disturber, is_quiet, may_feed, may_wake, sift, standing_at}
+use Rattle.vt_meaning.specs.NextPlaces.{GoesOn, place_in}
 use Rattle.vt_meaning.specs.Places.{Before}
 use Rattle.vt_meaning.specs.Steps.{more}
 use Rattle.vt_meaning.specs.ThreadMeaning.{may_meet, ThreadMeaning, Wants}
 use Rattle.vt_meaning.specs.Traces.{stance_in, Thread, waiting}
-use Rattle.vt_meaning.specs.Turns.{place_in}
 use Rattle.vt_meaning.specs.World.{events_of, Opening}
 use Rattle.vt_meaning.proofs.Order.{is_before-true, true-is_before, upto-before}
-use Rattle.vt_meaning.proofs.FrontAndBounds.{both_true, contains_cons, contains_here, contains_there, BoundIs, bound_is}
-use Rattle.vt_meaning.proofs.KeptByTurns.{get_of, has_of}
+use Rattle.vt_meaning.proofs.FrontAndBounds.{both_true, contains_cons, contains_here, contains_there, bound_is}
+use Rattle.vt_meaning.proofs.KeptByTransitions.{get_of, has_of}
 use Rattle.vt_meaning.proofs.Writers.{either, or_left, or_right}
 
 empty_has : {A : Type 0} (x : A) → Contains [] x → ⊥
@@ -221,18 +221,16 @@ any_has m es place (e ∷ ds) thread h k =
 
 module _ (m : ThreadMeaning) (opening : Opening) (these : List Thread) (s : Stance) (place : Place) where
   bound_below : is_below (place_in (events_of m opening these) s) place ≡ true → (b : Place) × GoesOn m opening these s b × Before b place
-  unfolding BoundIs
   bound_below h = go (place_in (events_of m opening these) s) (bound_is m opening these s) h
     where
-      go : (o : Option Place) → BoundIs m opening these s o → is_below o place ≡ true → (b : Place) × GoesOn m opening these s b × Before b place
+      go : (o : Option Place) → IsBound m opening these s o → is_below o place ≡ true → (b : Place) × GoesOn m opening these s b × Before b place
       go None i k = absurd (let z : false ≡ true = k in cc)
       go (Some b) i k = (b, i.0, true-is_before b place k)
 
   below_bound : (b : Place) → GoesOn m opening these s b → Before b place → is_below (place_in (events_of m opening these) s) place ≡ true
-  unfolding BoundIs
   below_bound b on lt = go (place_in (events_of m opening these) s) (bound_is m opening these s)
     where
-      go : (o : Option Place) → BoundIs m opening these s o → is_below o place ≡ true
+      go : (o : Option Place) → IsBound m opening these s o → is_below o place ≡ true
       go None i = absurd (i b on)
       go (Some c) i = is_before-true c place (upto-before c b place (i.1 b on) lt)
 

@@ -16,16 +16,15 @@ use Rattle.vt_meaning.specs.Consistent.{IsConsistent, IsExact}
 use Rattle.vt_meaning.specs.Disturbers.{is_clear, is_quiet}
 use Rattle.vt_meaning.specs.Happenings.{FirstOr}
 use Rattle.vt_meaning.specs.LogLaws.{LogIsConsistent}
-use Rattle.vt_meaning.specs.Log.{Deed, LogEntry, Row, after, after_entries, after_entry, answered, come_back, deed_at, deed_on, fresh_row, is_free, is_out_to, is_ready, next_piece, opening_rows, piece_limit, piece_of, put_back, read_by, started_in, taken, threads_in, wait_by, woken_by}
+use Rattle.vt_meaning.specs.Log.{Deed, LogEntry, Row, after, after_entries, after_entry, answered, come_back, deed_at, deed_on, fresh_row, is_free, is_out_to, is_ready, next_piece, opening_rows, piece_limit, piece_of, put_back, read_by, started_in, taken, threads_in, wait_by, wait_found}
 use Rattle.vt_meaning.specs.Log.Deed.{Took, Published, PutBack, ReadAnswered, WaitAnswered}
-use Rattle.vt_meaning.specs.LookUps.{first_above, last_below}
+use Rattle.vt_meaning.specs.LookUps.{answer_of, first_above, last_below}
 use Rattle.vt_meaning.specs.RealLaws.{LookUpsFind}
 use Rattle.vt_meaning.specs.Steps.{more, started_all}
 use Rattle.vt_meaning.specs.Theorems.{DisturbersRight, FrontRight, Opens, PiecesKeep, ReadsKeep, WaitsKeep}
 use Rattle.vt_meaning.specs.ThreadLaws.{AreActs, IsSession}
 use Rattle.vt_meaning.specs.ThreadMeaning.{ThreadMeaning, Wants, with_stop}
 use Rattle.vt_meaning.specs.Traces.{Entry, Thread, paired, stance_in, standing, trace}
-use Rattle.vt_meaning.specs.Turns.{answer_of}
 use Rattle.vt_meaning.specs.World.{Opening, events_of, opening_world, started_by, told}
 use Rattle.vt_meaning.proofs.Pairing.{left, paired-append}
 use Rattle.vt_meaning.proofs.StepLaws.{longer_by}
@@ -33,20 +32,20 @@ use Rattle.vt_meaning.proofs.Lists.{entry_at, none_some}
 use Rattle.vt_meaning.proofs.RealThreads.{first_paired, left_for, paired_cons}
 
 -- the threads of rows
-threads_set : (rows : List Row) (k : ℕ) (row : Row) → threads_in (slice_set rows k row) ≡ slice_set (threads_in rows) k row.thread
+pub threads_set : (rows : List Row) (k : ℕ) (row : Row) → threads_in (slice_set rows k row) ≡ slice_set (threads_in rows) k row.thread
 threads_set [] k row = refl
 threads_set (first ∷ rows) zero row = refl
 threads_set (first ∷ rows) (suc k) row = ap (λ l. first.thread ∷ l) (threads_set rows k row)
 
-threads_append : (rows others : List Row) → threads_in (rows ++ others) ≡ threads_in rows ++ threads_in others
+pub threads_append : (rows others : List Row) → threads_in (rows ++ others) ≡ threads_in rows ++ threads_in others
 threads_append [] others = refl
 threads_append (row ∷ rows) others = ap (λ l. row.thread ∷ l) (threads_append rows others)
 
-threads_fresh : (threads : List Thread) → threads_in (map fresh_row threads) ≡ threads
+pub threads_fresh : (threads : List Thread) → threads_in (map fresh_row threads) ≡ threads
 threads_fresh [] = refl
 threads_fresh (thread ∷ threads) = ap (λ l. thread ∷ l) (threads_fresh threads)
 
-thread_at : (rows : List Row) (k : ℕ) (row : Row) → slice_get rows k ≡ Some row → slice_get (threads_in rows) k ≡ Some row.thread
+pub thread_at : (rows : List Row) (k : ℕ) (row : Row) → slice_get rows k ≡ Some row → slice_get (threads_in rows) k ≡ Some row.thread
 thread_at [] k row has = absurd (none_some has)
 thread_at (first ∷ rows) zero row has = let z : Some first ≡ Some row = has in let same : first ≡ row = cc z in ap (λ (r : Row). Some r.thread) same
 thread_at (first ∷ rows) (suc k) row has = thread_at rows k row has
@@ -57,7 +56,7 @@ set_same (first ∷ threads) zero thread has = let z : Some first ≡ Some threa
 set_same (first ∷ threads) (suc k) thread has = ap (λ l. first ∷ l) (set_same threads k thread has)
 
 -- a row with the same thread changes nothing of the threads
-same_threads : (rows : List Row) (k : ℕ) (row next : Row) → slice_get rows k ≡ Some row → next.thread ≡ row.thread → threads_in (slice_set rows k next) ≡ threads_in rows
+pub same_threads : (rows : List Row) (k : ℕ) (row next : Row) → slice_get rows k ≡ Some row → next.thread ≡ row.thread → threads_in (slice_set rows k next) ≡ threads_in rows
 same_threads rows k row next has same =
     threads_set rows k next ∙ ap (slice_set (threads_in rows) k) same ∙ set_same (threads_in rows) k row.thread (thread_at rows k row has)
 
@@ -164,7 +163,7 @@ module _ (m : ThreadMeaning) (a : AreActs m) where
           sym (take_at next.0 later.0 (length piece) full) ∙ ap (take (length piece)) (sym whole ∙ first.1) ∙ take_at piece first.0 (length piece) refl
 
   -- .. and its trace has the entries of these steps behind
-  piece_trace : (thread : Thread) → IsExact m thread → (w : List Entry) × (trace m (more (length (next_piece m thread)) thread) ≡ trace m thread ++ w) × (length w ≡ length (next_piece m thread)) × (started_all w ≡ started_in (next_piece m thread))
+  pub piece_trace : (thread : Thread) → IsExact m thread → (w : List Entry) × (trace m (more (length (next_piece m thread)) thread) ≡ trace m thread ++ w) × (length w ≡ length (next_piece m thread)) × (started_all w ≡ started_in (next_piece m thread))
   unfolding trace
   piece_trace thread exact =
       let piece = next_piece m thread in
@@ -231,7 +230,7 @@ module _ (opens : Opens) (pieces : PiecesKeep) (reads : ReadsKeep) (waits : Wait
     read Over is = good
 
     wake : (place : Place) (wants : Wants) → stance_in m row.thread ≡ Waits place wants.pattern wants.stop → (found : Option EventView) → FirstOr m opening (threads_in rows) place wants found →
-        Good (woken_by m opening rows rec row found)
+        Good (wait_found m opening rows rec row found)
     wake place wants is None first = good
     wake place wants is (Some event) first = go (is_clear m opening (threads_in rows) event.place) refl
       where
@@ -256,7 +255,7 @@ module _ (opens : Opens) (pieces : PiecesKeep) (reads : ReadsKeep) (waits : Wait
     deed_good ReadAnswered = read (stance_in m row.thread) refl
     deed_good WaitAnswered = wait (stance_in m row.thread) refl
 
-  entry_good : (rows : List Row) (entry : LogEntry) → Good rows → Good (after_entry m opening rows entry)
+  pub entry_good : (rows : List Row) (entry : LogEntry) → Good rows → Good (after_entry m opening rows entry)
   entry_good rows entry good = go (slice_get rows entry.rec) refl
     where
       go : (found : Option Row) → slice_get rows entry.rec ≡ found → Good (deed_at m opening rows entry found)

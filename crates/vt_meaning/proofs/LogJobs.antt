@@ -8,14 +8,13 @@ use Rattle.vt_run.specs.declared.action.Answer.{Answer}
 use Rattle.vt_run.specs.declared.action.Answer.TheVariants.{Found}
 use Rattle.vt_run.specs.Standing.{Stance, Ready, Asks, Waits, Asleep, Over}
 use Rattle.vt_meaning.specs.Disturbers.{is_clear, is_quiet}
-use Rattle.vt_meaning.specs.LogLaws.{JobStays, LogGrows, OneJob}
-use Rattle.vt_meaning.specs.Log.{Deed, LogEntry, Row, after, after_entries, after_entry, answered, come_back, deed_at, deed_on, fresh_row, goes, is_free, is_out_to, is_ready, is_worker, job_of, jobs_from, next_piece, opening_rows, put_back, read_by, started_in, taken, threads_in, wait_by, woken_by}
+use Rattle.vt_meaning.specs.LogLaws.{JobStays, LogGrows, LogsLeave, OneJob, StoreJobsStay}
+use Rattle.vt_meaning.specs.Log.{Deed, LogEntry, Row, after, after_entries, after_entry, answered, come_back, deed_at, deed_on, fresh_row, goes, is_free, is_out_to, is_ready, is_worker, job_of, jobs_from, next_piece, opening_rows, put_back, read_by, started_in, taken, threads_in, wait_by, wait_found}
 use Rattle.vt_meaning.specs.Log.Deed.{Took, Published, PutBack, ReadAnswered, WaitAnswered}
-use Rattle.vt_meaning.specs.LookUps.{first_above, last_below}
+use Rattle.vt_meaning.specs.LookUps.{answer_of, first_above, last_below}
 use Rattle.vt_meaning.specs.Steps.{more}
 use Rattle.vt_meaning.specs.ThreadMeaning.{ThreadMeaning, with_stop}
 use Rattle.vt_meaning.specs.Traces.{Thread, stance_in}
-use Rattle.vt_meaning.specs.Turns.{answer_of}
 use Rattle.vt_meaning.specs.World.{Opening, events_of, opening_world, told}
 
 none_some : {A : Type 0} {x : A} → ◌≡◌ {A = Option A} None (Some x) → ⊥
@@ -63,13 +62,13 @@ jobs-set worker rec (first ∷ rows) (suc k) row next has old new =
     ap (λ l. cond (is_out_to worker first) (job_of rec first ∷ l) l) (jobs-set worker (rec + 1) rows k row next has old new)
 
 -- a record that is out stands where its thread goes on
-abbrev OutGoes : ThreadMeaning → Row → Type 0
+abbrev pub OutGoes : ThreadMeaning → Row → Type 0
 OutGoes m row = is_some row.out ≡ true → goes (stance_in m row.thread) ≡ true
 
-abbrev AllGo : ThreadMeaning → List Row → Type 0
+abbrev pub AllGo : ThreadMeaning → List Row → Type 0
 AllGo m rows = AllByRecursion (OutGoes m) rows
 
-go_at : (m : ThreadMeaning) (rows : List Row) (k : ℕ) (row : Row) → AllGo m rows → slice_get rows k ≡ Some row → OutGoes m row
+pub go_at : (m : ThreadMeaning) (rows : List Row) (k : ℕ) (row : Row) → AllGo m rows → slice_get rows k ≡ Some row → OutGoes m row
 go_at m [] k row all has = absurd (none_some has)
 go_at m (first ∷ rows) zero row all has = subst (OutGoes m) (some_same has) all.0
 go_at m (first ∷ rows) (suc k) row all has = go_at m rows k row all.1 has
@@ -79,7 +78,7 @@ go_set m [] k next all new = tt
 go_set m (first ∷ rows) zero next all new = (new, all.1)
 go_set m (first ∷ rows) (suc k) next all new = (all.0, go_set m rows k next all.1 new)
 
-go_fresh : (m : ThreadMeaning) (threads : List Thread) → AllGo m (map fresh_row threads)
+pub go_fresh : (m : ThreadMeaning) (threads : List Thread) → AllGo m (map fresh_row threads)
 go_fresh m [] = tt
 go_fresh m (thread ∷ threads) = (λ out. absurd (false_true out), go_fresh m threads)
 
@@ -150,7 +149,7 @@ module _ (m : ThreadMeaning) (opening : Opening) (rows : List Row) (v rec : ℕ)
   read_stays worker (Asleep time) is = stays_same m worker rows all
   read_stays worker Over is = stays_same m worker rows all
 
-  wake_stays : (worker : ℕ) → goes (stance_in m row.thread) ≡ false → (found : Option EventView) → Stays m worker rows (woken_by m opening rows rec row found)
+  wake_stays : (worker : ℕ) → goes (stance_in m row.thread) ≡ false → (found : Option EventView) → Stays m worker rows (wait_found m opening rows rec row found)
   wake_stays worker still None = stays_same m worker rows all
   wake_stays worker still (Some event) = go (is_clear m opening (threads_in rows) event.place)
     where
@@ -215,7 +214,7 @@ entries_stay m opening worker (entry ∷ entries) rows all differ =
     entries_stay m opening worker entries (after_entry m opening rows entry) one.all differ.1 ∙ one.jobs
 
 -- what every entry keeps: that holds for a worker who is not among them, so for one that has another number
-all_go : (m : ThreadMeaning) (opening : Opening) (entries : List LogEntry) (rows : List Row) → AllGo m rows → AllGo m (after_entries m opening entries rows)
+pub all_go : (m : ThreadMeaning) (opening : Opening) (entries : List LogEntry) (rows : List Row) → AllGo m rows → AllGo m (after_entries m opening entries rows)
 all_go m opening [] rows all = all
 all_go m opening (entry ∷ entries) rows all =
     all_go m opening entries (after_entry m opening rows entry) (entry_stays m opening rows (suc entry.worker) entry all (λ e. absurd (omega (arith, e)))).all
@@ -326,3 +325,8 @@ unfolding after
 one_job m opening log worker =
     let none = ap length (no_jobs worker 0 (opening_world opening)) in
     entries_one m opening worker log (opening_rows opening) (go_fresh m (opening_world opening)) (omega (arith, none))
+
+-- the same of stores, whose records are what their logs leave
+pub store_jobs_stay : LogsLeave → JobStays → StoreJobsStay
+store_jobs_stay leave stay m opening session log further rows later worker steps more differ =
+    ap (jobs_from worker 0) (leave m opening session (log ++ further) later more).0 ∙ stay m opening log further worker differ ∙ sym (ap (jobs_from worker 0) (leave m opening session log rows steps).0)

@@ -8,9 +8,10 @@ use Rattle.vt_run.specs.declared.action.Action.{Action}
 use Rattle.vt_run.specs.declared.action.Action.TheVariants.{Emit, End, Read, Rest, Spawn, Wait}
 use Rattle.vt_run.specs.declared.action.Answer.{Answer}
 use Rattle.vt_run.specs.declared.start.Start.{Start}
-use Rattle.vt_meaning.specs.Bounds.{GoesOn, StandsBelow}
+use Rattle.vt_meaning.specs.Bounds.{StandsBelow}
 use Rattle.vt_meaning.specs.Consistent.{has_answer, IsConsistent, IsExact}
 use Rattle.vt_meaning.specs.Happenings.{Acted, Begun, Happened, Spawned}
+use Rattle.vt_meaning.specs.NextPlaces.{GoesOn}
 use Rattle.vt_meaning.specs.Places.{Before, Upto}
 use Rattle.vt_meaning.specs.Reach.{IsKnown}
 use Rattle.vt_meaning.specs.ThreadLaws.{IsLawful}

@@ -32,8 +32,8 @@ use Rattle.vt_meaning.proofs.FinishedAgree.{remove-keeps}
 use Rattle.vt_meaning.proofs.Lists.{entry_at, none_some}
 use Rattle.vt_meaning.proofs.Order.{before-wake, before_upto}
 use Rattle.vt_meaning.proofs.Ranks.{rank, rank-less, rank-upto, all_places, covers, sane, acted_at}
-use Rattle.vt_meaning.proofs.FunctionTurns.{costs_length}
-use Rattle.vt_meaning.proofs.KeptByTurns.{get_of}
+use Rattle.vt_meaning.proofs.FunctionTransitions.{costs_length}
+use Rattle.vt_meaning.proofs.KeptByTransitions.{get_of}
 use Rattle.vt_meaning.proofs.Traces.{At, at_start, moved_upto, one_ready, one_up}
 
 -- a thread has done no more steps than all threads cost

@@ -10,8 +10,9 @@ use Rattle.vt_run.specs.Standing.{action_place, next_step, Ready}
 use Rattle.vt_run.specs.declared.action.Action.{Action}
 use Rattle.vt_run.specs.declared.action.Action.TheVariants.{Emit, End, Read, Rest, Spawn, Wait}
 use Rattle.vt_run.specs.declared.start.Start.{Start}
-use Rattle.vt_meaning.specs.Bounds.{GoesOn, StandsBelow}
+use Rattle.vt_meaning.specs.Bounds.{StandsBelow}
 use Rattle.vt_meaning.specs.Consistent.{got, has_answer, IsConsistent, IsExact}
+use Rattle.vt_meaning.specs.NextPlaces.{GoesOn}
 use Rattle.vt_meaning.specs.Places.{Before, Upto}
 use Rattle.vt_meaning.specs.Reach.{IsFed, IsKnown}
 use Rattle.vt_meaning.specs.ThreadLaws.{is_spawn, IsLawful, IsLive, IsOrderly, starts_one}

@@ -9,9 +9,10 @@ use Rattle.vt_run.specs.declared.action.Action.{Action}
 use Rattle.vt_run.specs.declared.action.Action.TheVariants.{Read}
 use Rattle.vt_run.specs.declared.action.Answer.{Answer}
 use Rattle.vt_run.specs.declared.start.Start.{Start}
-use Rattle.vt_meaning.specs.Bounds.{Clear, GoesOn}
+use Rattle.vt_meaning.specs.Bounds.{Clear}
 use Rattle.vt_meaning.specs.Consistent.{IsConsistent}
 use Rattle.vt_meaning.specs.Happenings.{Acted}
+use Rattle.vt_meaning.specs.NextPlaces.{GoesOn}
 use Rattle.vt_meaning.specs.Places.{Before}
 use Rattle.vt_meaning.specs.ThreadLaws.{IsLawful}
 use Rattle.vt_meaning.specs.ThreadMeaning.{ThreadMeaning, Wants}

@@ -4,7 +4,9 @@ use Rattle.std.specs.Prelude.{slice_get, slice_set}
 use Rattle.vt_run.specs.Standing.{Ready}
 use Rattle.vt_meaning.specs.Consistent.{IsConsistent}
 use Rattle.vt_meaning.specs.Reach.{IsKnown}
-use Rattle.vt_meaning.specs.Steps.{more, published, started_all}
+use Rattle.vt_meaning.specs.Steps.{Changes, more, published, started_all}
+use Rattle.vt_meaning.specs.Steps.Changes.{Changed, Unchanged}
+use Rattle.vt_meaning.specs.Steps.Follows.{Stepped}
 use Rattle.vt_meaning.specs.ThreadLaws.{AreActs, IsActs, IsOrderly}
 use Rattle.vt_meaning.specs.ThreadMeaning.{ThreadMeaning}
 use Rattle.vt_meaning.specs.Traces.{Entry, paired, stance_in, standing, Thread, trace}
@@ -43,15 +45,16 @@ more_more k thread = let e : (thread.done + 1) + k ≡ thread.done + suc k = ome
 more_none : (thread : Thread) → more 0 thread ≡ thread
 more_none thread = λ j. record { start = thread.start; answers = thread.answers; done = add-zero thread.done j }
 
--- **so a published piece leaves a consistent set**
-pub piece_kept : (m : ThreadMeaning) (a : IsActs m) (opening : Opening) → IsKnown m opening → IsOrderly opening → (k : ℕ) (these : List Thread) → IsConsistent m opening these → (i : ℕ) (thread : Thread) → slice_get these i ≡ Some thread →
-    (entries : List Entry) → trace m (more k thread) ≡ trace m thread ++ entries → length entries ≡ k → IsConsistent m opening (published these i (more k thread) entries)
-piece_kept m a opening knowns ok zero these consistent i thread has [] e n =
+-- so a published piece leaves a consistent set, step by step
+pub piece_both : (m : ThreadMeaning) (a : IsActs m) (opening : Opening) → IsKnown m opening → IsOrderly opening → (k : ℕ) (these : List Thread) → IsConsistent m opening these → (i : ℕ) (thread : Thread) → slice_get these i ≡ Some thread →
+    (entries : List Entry) → trace m (more k thread) ≡ trace m thread ++ entries → length entries ≡ k →
+    IsConsistent m opening (published these i (more k thread) entries) × Changes m opening these (published these i (more k thread) entries)
+piece_both m a opening knowns ok zero these consistent i thread has [] e n =
     let s : published these i (more 0 thread) [] ≡ these = append-nil (slice_set these i (more 0 thread)) ∙ ap (slice_set these i) (more_none thread) ∙ set_itself these i thread has in
-    subst (IsConsistent m opening) (sym s) consistent
-piece_kept m a opening knowns ok zero these consistent i thread has (x ∷ entries) e n = absurd (let z : suc (length entries) ≡ 0 = n in omega arith)
-piece_kept m a opening knowns ok (suc k) these consistent i thread has [] e n = absurd (let z : 0 ≡ suc k = n in omega arith)
-piece_kept m a opening knowns ok (suc k) these consistent i thread has (y ∷ entries) e n =
+    (subst (IsConsistent m opening) (sym s) consistent, subst (Changes m opening these) (sym s) (Unchanged these))
+piece_both m a opening knowns ok zero these consistent i thread has (x ∷ entries) e n = absurd (let z : suc (length entries) ≡ 0 = n in omega arith)
+piece_both m a opening knowns ok (suc k) these consistent i thread has [] e n = absurd (let z : 0 ≡ suc k = n in omega arith)
+piece_both m a opening knowns ok (suc k) these consistent i thread has (y ∷ entries) e n =
     let law = acts_lawful m a in
     let live = acts_live m a.acts in
     let l = ap length e in
@@ -69,10 +72,18 @@ piece_kept m a opening knowns ok (suc k) these consistent i thread has (y ∷ en
     sym e ∙ ap (trace m) (sym (more_more k thread)) ∙ rest.1 ∙ ap (λ v. v ++ rest.0) g.1 ∙ append_assoc (trace m thread) (g.0 ∷ []) rest.0 in
     let parts : y ∷ entries ≡ g.0 ∷ rest.0 = cancel (trace m thread) (y ∷ entries) (g.0 ∷ rest.0) whole in
     let n2 : length rest.0 ≡ k = (let q = ap length parts in let c : suc (length entries) ≡ suc (length rest.0) = q in let d : suc (length entries) ≡ suc k = n in omega arith) in
-    let con2 = piece_kept m a opening knowns ok k (moved_on these i (one_more thread) g.0.step.action) con1 i (one_more thread) has1 rest.0 rest.1 n2 in
+    let later = piece_both m a opening knowns ok k (moved_on these i (one_more thread) g.0.step.action) con1 i (one_more thread) has1 rest.0 rest.1 n2 in
     let shape : published (moved_on these i (one_more thread) g.0.step.action) i (more k (one_more thread)) rest.0 ≡ published these i (more (suc k) thread) (y ∷ entries) =
     ap (λ v. v ++ started_all rest.0) (set_set these (started_by g.0.step.action) i (one_more thread) (more k (one_more thread)) thread has)
     ∙ append_assoc (slice_set these i (more k (one_more thread))) (started_by g.0.step.action) (started_all rest.0)
     ∙ ap (λ v. slice_set these i v ++ started_all (g.0 ∷ rest.0)) (more_more k thread)
     ∙ ap (λ v. slice_set these i (more (suc k) thread) ++ started_all v) (sym parts) in
-    subst (IsConsistent m opening) shape con2
+    let step = Stepped i thread here.0 g.0 has goes g.1 in (
+      subst (IsConsistent m opening) shape later.0,
+      subst (Changes m opening these) shape (Changed these (moved_on these i (one_more thread) g.0.step.action) (published (moved_on these i (one_more thread) g.0.step.action) i (more k (one_more thread)) rest.0) step later.1),
+    )
+
+-- **a published piece keeps a set consistent**
+pub piece_kept : (m : ThreadMeaning) (a : IsActs m) (opening : Opening) → IsKnown m opening → IsOrderly opening → (k : ℕ) (these : List Thread) → IsConsistent m opening these → (i : ℕ) (thread : Thread) → slice_get these i ≡ Some thread →
+    (entries : List Entry) → trace m (more k thread) ≡ trace m thread ++ entries → length entries ≡ k → IsConsistent m opening (published these i (more k thread) entries)
+piece_kept m a opening knowns ok k these consistent i thread has entries e n = (piece_both m a opening knowns ok k these consistent i thread has entries e n).0

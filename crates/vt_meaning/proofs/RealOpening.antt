@@ -1,6 +1,6 @@
 -- What a session begins with, where its texts and inputs are orderly: lists and places of their own, and all within the limits.
 use Rattle.std.proofs.Common.{◌≡◌, ℕ, zero, suc, ◌+◌, ◌≤◌, List, [], ◌∷◌, ◌++◌, length, refl, sym, ◌∙◌, ap, inl, inr, arith, Bool, true, false, cond, subst, Option, Some, None}
-use Rattle.std.specs.Prelude.{slice_get, filter, not, Contains, All}
+use Rattle.std.specs.Prelude.{slice_get, filter, not, Contains, All, is_some}
 use Rattle.std.specs.declared.cmp.Ordering.{Ordering}
 use Rattle.std.specs.declared.cmp.Ordering.TheVariants.{Less, Equal, Greater}
 use Rattle.std.proofs.lemmas.Option.{get_or_from_slice_get, slice_get_within}
@@ -12,7 +12,7 @@ use Rattle.vt_value.specs.Comparison.{holds, value_cmp}
 use Rattle.vt_value.specs.declared.fault.FaultKind.{FaultKind}
 use Rattle.vt_event.specs.declared.place.Place.{Place}
 use Rattle.vt_event.specs.Event.{EventView}
-use Rattle.vt_event.specs.Orderly.{IsInput}
+use Rattle.vt_event.specs.Orderly.{IsInput, IsGiven}
 use Rattle.vt_run.specs.declared.start.Start.{Start}
 use Rattle.vt_run.specs.declared.texts.Texts.{Texts}
 use Rattle.vt_run.specs.declared.texts.Verdict.{Verdict}
@@ -27,6 +27,9 @@ use Rattle.vt_meaning.specs.Places.{Earlier}
 use Rattle.vt_meaning.specs.RealLaws.{IsOpening, IsRendered, OpeningsAreOrderly, OpeningsAreWithin, TextsArePrompt, text_times}
 use Rattle.vt_meaning.proofs.Lists.{get-append_cases}
 use Rattle.vt_meaning.specs.Session.{Key, given_events, of_texts, opening_starts, refusal_of, start_of}
+use Rattle.vt_event.specs.declared.kind.Kind.TheVariants.{Play, Synth, Sample, Fx, Cue, Set as SetKind, Log, Took, Fault as FaultKindOf, Body, Defined, Started, Ended}
+use Rattle.vt_event.specs.declared.kind.Kind.{Kind}
+use Rattle.vt_event.specs.Kinds.{has_body}
 
 none_some : {A : Type 0} {x : A} → ◌≡◌ {A = Option A} None (Some x) → ⊥
 none_some h = cc
@@ -124,36 +127,57 @@ number_in (n ∷ ns) = n
 start_number : Start → ℕ
 start_number start = number_in start.place.thread
 
-event_number : EventView → ℕ
+pub event_number : EventView → ℕ
 event_number event = number_in event.place.thread
 
 input_number : EventView → ℕ
 input_number event = event.place.step
 
 -- how the thread of a good text below the horizon starts
-record IsTextStart (key : Key) (start : Start) : Type 0 where
-  number : ℕ
-  time : Fraction
-  tree : Block
-  text : slice_get key.texts number ≡ Some (time, Good tree)
-  below : is_past key.options.until time ≡ false
-  is : start ≡ text_start (1 + number) time key.options
+pub record IsTextStart (key : Key) (start : Start) : Type 0 where
+  pub number : ℕ
+  pub time : Fraction
+  pub tree : Block
+  pub text : slice_get key.texts number ≡ Some (time, Good tree)
+  pub below : is_past key.options.until time ≡ false
+  pub is : start ≡ text_start (1 + number) time key.options
 
 -- the fault of a refused text below the horizon
-record IsRefused (key : Key) (event : EventView) : Type 0 where
-  number : ℕ
-  time : Fraction
-  kind : FaultKind
-  line : ℕ
-  text : slice_get key.texts number ≡ Some (time, Bad kind line)
-  below : is_past key.options.until time ≡ false
-  is : event ≡ refused_event (1 + number) time kind line
+pub record IsRefused (key : Key) (event : EventView) : Type 0 where
+  pub number : ℕ
+  pub time : Fraction
+  pub kind : FaultKind
+  pub line : ℕ
+  pub text : slice_get key.texts number ≡ Some (time, Bad kind line)
+  pub below : is_past key.options.until time ≡ false
+  pub is : event ≡ refused_event (1 + number) time kind line
 
 -- an input
-record IsHeard (event : EventView) : Type 0 where
-  thread : event.place.thread ≡ 0 ∷ []
-  micro : event.place.micro ≡ 0
-  within : IsEventWithin event
+pub record IsHeard (event : EventView) : Type 0 where
+  pub thread : event.place.thread ≡ 0 ∷ []
+  pub micro : event.place.micro ≡ 0
+  pub within : IsEventWithin event
+  pub bodiless : event.body ≡ None
+
+not_some : {A : Type 0} (o : Option A) → is_some o ≡ false → o ≡ None
+not_some None e = refl
+not_some (Some a) e = absurd (let z : true ≡ false = e in cc)
+
+-- an input carries no block
+no_body : (event : EventView) (kind : Kind) → event.kind ≡ kind → IsGiven kind event → is_some event.body ≡ has_body kind → event.body ≡ None
+no_body event Cue is given e = not_some event.body e
+no_body event SetKind is given e = not_some event.body e
+no_body event Ended is given e = not_some event.body e
+no_body event Play is given e = absurd given
+no_body event Synth is given e = absurd given
+no_body event Sample is given e = absurd given
+no_body event Fx is given e = absurd given
+no_body event Log is given e = absurd given
+no_body event Took is given e = absurd given
+no_body event (FaultKindOf fault) is given e = absurd given
+no_body event Body is given e = absurd given
+no_body event Defined is given e = absurd given
+no_body event Started is given e = absurd given
 
 all_at : {A : Type 0} (P : A → Type 0) (xs : List A) (k : ℕ) (x : A) → All P xs → slice_get xs k ≡ Some x → P x
 all_at P xs k x all at = subst P (get_or_from_slice_get xs k x x at) (all k x (slice_get_within xs k x at))
@@ -171,7 +195,7 @@ inputs_rise number (input ∷ inputs) each =
     let first = each 0 input refl in
     let step = ap (λ (p : Place). p.step) first.0.place in (
       omega (arith, step),
-      record { thread = ap (λ (p : Place). p.thread) first.0.place; micro = ap (λ (p : Place). p.micro) first.0.place; within = first.1 },
+      record { thread = ap (λ (p : Place). p.thread) first.0.place; micro = ap (λ (p : Place). p.micro) first.0.place; within = first.1; bodiless = no_body input input.kind refl first.0.form first.0.fields.body_with_kind },
       rising_from input_number IsHeard (number + 1) (suc input.place.step) inputs (omega (arith, step))
           (inputs_rise (number + 1) inputs (λ k other at. let n : number + suc k ≡ (number + 1) + k = omega arith in subst (λ m. IsInput m other × IsEventWithin other) n (each (suc k) other at))),
     )
@@ -224,7 +248,7 @@ module _ (starting : TextStartLaw) (refusing : RefusalLaw) (hearing : InputLaw) 
       subst IsEventWithin (sym of.is) (refusing (1 + of.number) of.time of.kind of.line key.options (time_is of.number of.time (Bad of.kind of.line) of.text)).within
 
   -- a given event is a refusal or an input
-  data IsGivenSo (event : EventView) : Type 0 where
+  pub data IsGivenSo (event : EventView) : Type 0 where
     Refusal : IsRefused key event → 1 ≤ event_number event → IsGivenSo event
     Heard : IsHeard event → is_past key.options.until event.place.time ≡ false → IsGivenSo event
 
@@ -241,10 +265,10 @@ module _ (starting : TextStartLaw) (refusing : RefusalLaw) (hearing : InputLaw) 
             (not_true (is_past key.options.until event.place.time) (filter_passes is_early key.inputs right.0 event right.2))
       ]
 
-  given_so : (event : EventView) → Contains (given_events key) event → IsGivenSo event
+  pub given_so : (event : EventView) → Contains (given_events key) event → IsGivenSo event
   given_so event has = let at = index_of (given_events key) event has in given_at at.0 event at.1
 
-  text_so : (start : Start) → Contains (opening_starts key) start → IsTextStart key start
+  pub text_so : (start : Start) → Contains (opening_starts key) start → IsTextStart key start
   text_so start has = (rising_holds start_number (IsTextStart key) 1 (opening_starts key) start starts_rise has).1
 
   -- a text is not both good and refused
@@ -336,12 +360,12 @@ unfolding Earlier
 earlier_than until time u t h = sym (order_is time until t u) ∙ earlier_by (value_cmp time until) h
 
 pub openings_are_within : OpeningsAreOrderly → TextsArePrompt → OpeningsAreWithin
-openings_are_within orderly prompt key rendered =
+openings_are_within orderly prompt key may fit known rendered =
     let o = orderly key rendered in
     record {
       horizon = rendered.horizon;
       starts = λ start has. earlier_than key.options.until start.place.time rendered.horizon (o.known.starts start has).1.time (o.early start has);
       given = λ event has. earlier_than key.options.until event.place.time rendered.horizon (o.known.given event has).1.time (o.heard event has);
       spawns = λ thread i entry place start at is early.
-          subst (λ time. Earlier time key.options.until) (sym (prompt key.texts key.options.until (λ s q. true) (λ s. true) (λ e. true) thread i entry place start at is)) early;
+          subst (λ time. Earlier time key.options.until) (sym (prompt key.texts key.options.until may fit known thread i entry place start at is)) early;
     }

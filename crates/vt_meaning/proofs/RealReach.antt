@@ -30,7 +30,7 @@ use Rattle.vt_run.specs.laws.StepFacts.{IsActionSmall, IsThreadWithin}
 use Rattle.vt_run.specs.laws.StepLaws.{EventPathsLaw, IsStep, LimitsLaw}
 use Rattle.vt_meaning.specs.LookUps.{is_took, matches_event, matches_some}
 use Rattle.vt_meaning.specs.Places.{Before}
-use Rattle.vt_meaning.specs.RealLaws.{IsLeading, OpeningsAreOrderly, RenderedIsSession, TextsAct, TextsAreActs, TextsBreed, TextsMove, TextsTell, threads_with}
+use Rattle.vt_meaning.specs.RealLaws.{AllIsWithin, IsLeading, OpeningsAreOrderly, RenderedIsSession, TextsAct, TextsAreActs, TextsBreed, TextsMove, TextsTell, threads_with}
 use Rattle.vt_meaning.specs.Reach.{IsFed}
 use Rattle.vt_meaning.specs.Session.{threads_of, with_horizon}
 use Rattle.vt_meaning.specs.ThreadMeaning.{ThreadMeaning}
@@ -55,7 +55,7 @@ answers_within [] told = tt
 answers_within (x ∷ xs) told =
     one_within x.answer (answers_of xs) (λ event is. told 0 x event refl is) (answers_within xs (λ k entry event at is. told (suc k) entry event at is))
 
-get_first : {A : Type 0} (xs : List A) (i k : ℕ) (x : A) → slice_get (take i xs) k ≡ Some x → (k < i) × (slice_get xs k ≡ Some x)
+pub get_first : {A : Type 0} (xs : List A) (i k : ℕ) (x : A) → slice_get (take i xs) k ≡ Some x → (k < i) × (slice_get xs k ≡ Some x)
 get_first xs zero k x h = absurd (none_some h)
 get_first [] (suc i) k x h = absurd (none_some h)
 get_first (y ∷ ys) (suc i) zero x h = (omega arith, h)
@@ -117,7 +117,7 @@ module _ (texts_act : TextsAct) (limits : LimitsLaw) (texts : Texts) (until : Fr
   abbrev answers_before : Thread → ℕ → List Answer
   answers_before thread i = answers_of (take i (trace meaning_here thread))
 
-  fed_within : (thread : Thread) (i : ℕ) → IsFed meaning_here thread i → IsThreadWithin texts (with_horizon until thread.start) (answers_before thread i)
+  pub fed_within : (thread : Thread) (i : ℕ) → IsFed meaning_here thread i → IsThreadWithin texts (with_horizon until thread.start) (answers_before thread i)
   fed_within thread i fed = record {
     checked = checked;
     began = horizon_within until thread.start horizon fed.begun.1;
@@ -191,13 +191,16 @@ all_lead texts until = record {
   passes = λ thread i entry place start pattern fed at is may. refl;
 }
 
+pub all_is_within : OpeningsAreOrderly → AllIsWithin
+all_is_within opens key rendered = record { rendered = rendered; leading = all_lead key.texts key.options.until; begun = (opens key rendered).known }
+
 pub rendered_is_session : TextsAreActs → OpeningsAreOrderly → RenderedIsSession
-rendered_is_session are opens key rendered =
-    let opening = opens key rendered in
+rendered_is_session are opens key may fit known is =
+    let opening = opens key is.rendered in
     record {
-      acts = are key.texts key.options.until (λ start pattern. true) (λ start. true) (λ event. true) rendered.checked rendered.horizon (all_lead key.texts key.options.until);
+      acts = are key.texts key.options.until may fit known is.rendered.checked is.rendered.horizon is.leading;
       orderly = opening.orderly;
       given = opening.given;
       texts = opening.texts;
-      known = opening.known;
+      known = is.begun;
     }

@@ -12,17 +12,17 @@ use Rattle.vt_run.specs.declared.action.Action.{Action}
 use Rattle.vt_run.specs.declared.action.Action.TheVariants.{Emit, End, Read, Rest, Spawn, Wait}
 use Rattle.vt_run.specs.declared.action.Answer.{Answer}
 use Rattle.vt_run.specs.declared.action.Answer.TheVariants.{Found, Nothing}
-use Rattle.vt_meaning.specs.Bounds.{Clear, GoesOn, IsFinished}
+use Rattle.vt_meaning.specs.Bounds.{Clear}
 use Rattle.vt_meaning.specs.Disturbers.{is_above, is_clear}
 use Rattle.vt_meaning.specs.Happenings.{Above, FirstOr, IsFirst}
 use Rattle.vt_meaning.specs.LookUps.{matches_event}
+use Rattle.vt_meaning.specs.NextPlaces.{GoesOn, IsFinished, soonest}
 use Rattle.vt_meaning.specs.Places.{Before, is_before}
 use Rattle.vt_meaning.specs.Theorems.{lesser, Rests}
 use Rattle.vt_meaning.specs.Theorems.Rests.{HasEnded, Sleeping, Waiting}
 use Rattle.vt_meaning.specs.ThreadLaws.{IsLawful}
 use Rattle.vt_meaning.specs.ThreadMeaning.{meets, ThreadMeaning, Wants}
 use Rattle.vt_meaning.specs.Traces.{after_rest, after_step, rested, stance_in, Thread, wake, woken_by}
-use Rattle.vt_meaning.specs.Turns.{soonest}
 use Rattle.vt_meaning.specs.World.{events_of, Opening}
 use Rattle.vt_meaning.proofs.Order.{before-cases, before-trans, before-upto, is_before-true, true-is_before}
 use Rattle.vt_meaning.proofs.Traces.{last_step}

@@ -23,7 +23,7 @@ use Rattle.vt_meaning.specs.World.{Opening, total_of}
 use Rattle.vt_meaning.proofs.Pairing.{answers_of, one_answer}
 use Rattle.vt_meaning.proofs.StepLaws.{based, based_exact, exact_answers}
 use Rattle.vt_meaning.proofs.FrontAndBounds.{contains_cons}
-use Rattle.vt_meaning.proofs.KeptByTurns.{get_of, has_of}
+use Rattle.vt_meaning.proofs.KeptByTransitions.{get_of, has_of}
 use Rattle.vt_meaning.proofs.ListedDisturbers.{sift_from, sift_has}
 use Rattle.vt_meaning.proofs.Horizon.{earlier_horizon, fraction_lowest, sum_lowest}
 use Rattle.vt_meaning.proofs.Order.{earlier-no_later, is_earlier-true, no_later_same, true-is_earlier}

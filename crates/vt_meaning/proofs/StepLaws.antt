@@ -33,7 +33,7 @@ longer_by m a start bs n (suc d) =
     let c = a.longer start bs (n + d) in
     (b.0 ++ c.0, ap (m.acts start bs) (let e : n + suc d ≡ (n + d) + 1 = omega arith in e) ∙ c.1 ∙ ap (λ l. l ++ c.0) b.1 ∙ append_assoc (m.acts start bs n) b.0 c.0)
 
-further_by : (m : ThreadMeaning) (a : AreActs m) (start : Start) (bs cs : List Answer) (n : ℕ) → (r : List Step) × (m.acts start (bs ++ cs) n ≡ m.acts start bs n ++ r)
+pub further_by : (m : ThreadMeaning) (a : AreActs m) (start : Start) (bs cs : List Answer) (n : ℕ) → (r : List Step) × (m.acts start (bs ++ cs) n ≡ m.acts start bs n ++ r)
 further_by m a start bs [] n = ([], ap (λ l. m.acts start l n) (append-nil bs) ∙ sym (append-nil (m.acts start bs n)))
 further_by m a start bs (c ∷ cs) n =
     let b = a.further start bs c n in

@@ -10,11 +10,12 @@ use Rattle.vt_run.specs.declared.action.Action.TheVariants.{Emit, End, Read, Res
 use Rattle.vt_run.specs.declared.action.Answer.{Answer}
 use Rattle.vt_run.specs.declared.action.Answer.TheVariants.{Found, Nothing}
 use Rattle.vt_run.specs.declared.start.Start.{Start}
-use Rattle.vt_meaning.specs.Bounds.{Clear, Disturbs, GoesOn, IsCandidate, Quiet, StandsBelow}
+use Rattle.vt_meaning.specs.Bounds.{Clear, Disturbs, IsCandidate, Quiet, StandsBelow}
 use Rattle.vt_meaning.specs.Bounds.Disturbs.{Feeds, Writes}
 use Rattle.vt_meaning.specs.Consistent.{IsConsistent, IsExact}
 use Rattle.vt_meaning.specs.Happenings.{Acted, Begun, Below, Happened, IsFirst, IsLast, Spawned}
 use Rattle.vt_meaning.specs.LookUps.{matches_event}
+use Rattle.vt_meaning.specs.NextPlaces.{GoesOn}
 use Rattle.vt_meaning.specs.Places.{Before, Upto}
 use Rattle.vt_meaning.specs.Reach.{IsKnown}
 use Rattle.vt_meaning.specs.ThreadLaws.{IsLawful}

@@ -1,4 +1,4 @@
--- The turns of a session come to an end, and to one end, whatever its texts and inputs are.
+-- The transitions of a session come to an end, and to one end, whatever its texts and inputs are.
 use Rattle.std.proofs.Common.{◌≡◌, ℕ, ◌+◌, ◌*◌, ◌≤◌, List, [], ◌∷◌, ◌++◌, refl, sym, ◌∙◌, ap, inl, inr, arith, Bool, true, false, zero, suc, subst, Option, Some, None, length-append}
 use Rattle.std.specs.Prelude.{slice_get, slice_set, cond, nat_lt}
 use Rattle.vt_event.specs.declared.score.Outcome.{Outcome}
@@ -13,26 +13,27 @@ use Rattle.vt_run.specs.declared.action.Answer.{Answer}
 use Rattle.vt_run.specs.declared.action.Answer.TheVariants.{Found}
 use Rattle.vt_meaning.specs.Consistent.{IsExact}
 use Rattle.vt_meaning.specs.Endings.{ComesTo}
-use Rattle.vt_meaning.specs.Endings.ComesTo.{AboveBudget, AfterTurn, AtEnd}
-use Rattle.vt_meaning.specs.Laws.{MeaningIsOne, MeaningIsTotal, TurnsEnd, TurnsEndOnce}
-use Rattle.vt_meaning.specs.LookUps.{first_above, last_below}
-use Rattle.vt_meaning.specs.Meaning.{ending_of, enough_turns, goes_on, meaning, meaning_by, outcome_of, turns}
+use Rattle.vt_meaning.specs.Endings.ComesTo.{AboveBudget, AfterTransition, AtEnd}
+use Rattle.vt_meaning.specs.Laws.{MeaningIsOne, MeaningIsTotal, TransitionsEnd, TransitionsEndOnce}
+use Rattle.vt_meaning.specs.LookUps.{answer_of, first_above, last_below}
+use Rattle.vt_meaning.specs.Meaning.{ending_of, enough_transitions, goes_on, meaning, meaning_by, outcome_of, transitions}
 use Rattle.vt_meaning.specs.Meaning.Ending.{OverBudget}
+use Rattle.vt_meaning.specs.NextPlaces.{place_in, soonest, woken_at}
 use Rattle.vt_meaning.specs.Reach.{IsReach}
 use Rattle.vt_meaning.specs.Session.{opening_of, threads_of}
 use Rattle.vt_meaning.specs.ThreadLaws.{AreActs, IsLawful}
 use Rattle.vt_meaning.specs.ThreadMeaning.{ThreadMeaning, Wants, with_stop}
 use Rattle.vt_meaning.specs.Traces.{Entry, is_ask, stance_in, standing, Thread, trace, waiting}
-use Rattle.vt_meaning.specs.Turns.{answer_of, next_action, place_in, soonest, turn_by, turn_of, woken, woken_at}
+use Rattle.vt_meaning.specs.Transitions.{next_action, transition_by, transition_of, woken_in}
 use Rattle.vt_meaning.specs.World.{events_of, moved_on, one_more, Opening, opening_world, started_by, told, total_of, World}
 use Rattle.vt_meaning.proofs.StepLaws.{acts_lawful, acts_live}
 use Rattle.vt_meaning.proofs.AnsweredAsks.{exact_answered}
 use Rattle.vt_meaning.proofs.FrontAndBounds.{soonest_some}
 use Rattle.vt_meaning.proofs.Lists.{get-append_cases, get-set_other, get-set_same, none_some}
 use Rattle.vt_meaning.proofs.MovedThreads.{child_of, exact_fresh, split}
-use Rattle.vt_meaning.proofs.FunctionTurns.{not_over, over, weigh, weigh_moved, weigh_total}
+use Rattle.vt_meaning.proofs.FunctionTransitions.{not_over, over, weigh, weigh_moved, weigh_total}
 use Rattle.vt_meaning.proofs.OneMoreStep.{exact_more}
-use Rattle.vt_meaning.proofs.KeptByTurns.{start_of}
+use Rattle.vt_meaning.proofs.KeptByTransitions.{start_of}
 use Rattle.vt_meaning.proofs.Traces.{last_read, last_step, last_wait}
 
 -- the same threads, where nothing is said of what the texts can lead to: then the laws of the reach ask nothing
@@ -116,7 +117,7 @@ moved_exact m a these exact i thread t' act has e k v h =
           subst (IsExact m) (sym c.3) (exact_fresh m c.1 ((acts_live m a).nothing c.1)))
     ]
 
--- a turn leaves exact threads, and one step or answer more
+-- a transition leaves exact threads, and one step or answer more
 record IsTurned (m : ThreadMeaning) (these those : World) : Type 0 where
   exact : AreExact m those
   more : weigh those ≡ weigh these + 1
@@ -130,7 +131,7 @@ turned_told m a these exact i thread answer has o =
     }
 
 turned_by : (m : ThreadMeaning) → AreActs m → (opening : Opening) (these : List Thread) → AreExact m these → (i : ℕ) (thread : Thread) (place : Place) → slice_get these i ≡ Some thread → (s : Stance) → stance_in m thread ≡ s →
-    place_in (events_of m opening these) s ≡ Some place → IsTurned m these (turn_by m opening these i thread s)
+    place_in (events_of m opening these) s ≡ Some place → IsTurned m these (transition_by m opening these i thread s)
 unfolding AreExact
 turned_by m a opening these exact i thread place has (Ready r) e at =
     let g = (acts_live m a).grows thread r (exact i thread has) e in
@@ -141,37 +142,37 @@ turned_by m a opening these exact i thread place has (Ready r) e at =
 turned_by m a opening these exact i thread place has (Asks r q) e at = turned_told m a these exact i thread (answer_of (last_below (events_of m opening these) r q)) has (open_read m a thread r q e)
 turned_by m a opening these exact i thread place has (Waits r q c) e at = wakes (first_above (events_of m opening these) r (with_stop q c)) at
   where
-    wakes : (o : Option EventView) → woken_at r o ≡ Some place → IsTurned m these (woken these i thread o)
+    wakes : (o : Option EventView) → woken_at r o ≡ Some place → IsTurned m these (woken_in these i thread o)
     wakes None g = absurd (none_some g)
     wakes (Some f) g = turned_told m a these exact i thread (Found f) has (open_wait m a thread r (record { pattern = q; stop = c }) e)
 turned_by m a opening these exact i thread place has (Asleep n) e at = absurd (none_some at)
 turned_by m a opening these exact i thread place has Over e at = absurd (none_some at)
 
-turned : (m : ThreadMeaning) → AreActs m → (opening : Opening) (these : List Thread) → AreExact m these → (r : ℕ × Place) → soonest m (events_of m opening these) 0 these ≡ Some r → IsTurned m these (turn_of m opening these r.0 (slice_get these r.0))
+turned : (m : ThreadMeaning) → AreActs m → (opening : Opening) (these : List Thread) → AreExact m these → (r : ℕ × Place) → soonest m (events_of m opening these) 0 these ≡ Some r → IsTurned m these (transition_of m opening these r.0 (slice_get these r.0))
 turned m a opening these exact r e =
     let c = soonest_some m opening these r.0 r.1 e in
-    subst (λ o. IsTurned m these (turn_of m opening these r.0 o)) (sym c.has) (turned_by m a opening these exact r.0 c.thread r.1 c.has (stance_in m c.thread) refl c.bound)
+    subst (λ o. IsTurned m these (transition_of m opening these r.0 o)) (sym c.has) (turned_by m a opening these exact r.0 c.thread r.1 c.has (stance_in m c.thread) refl c.bound)
 
 Enough : Opening → ℕ → World → Type 0
 Enough opening n these = 2 * opening.budget + 2 ≤ n + weigh these
 
--- **with enough turns a world comes to what the turns give**
-comes_to : (m : ThreadMeaning) → AreActs m → (opening : Opening) (n : ℕ) (these : List Thread) → AreExact m these → Enough opening n these → ComesTo m opening these (outcome_of m opening (turns m opening n these))
+-- **with enough transitions a world comes to what the transitions give**
+comes_to : (m : ThreadMeaning) → AreActs m → (opening : Opening) (n : ℕ) (these : List Thread) → AreExact m these → Enough opening n these → ComesTo m opening these (outcome_of m opening (transitions m opening n these))
 unfolding Enough AreExact
 comes_to m a opening zero these exact enough = AboveBudget these (let w = weigh_total m (acts_live m a) these exact in omega (arith, w, enough))
 comes_to m a opening (suc n) these exact enough = test (comes_to m a opening n) (nat_lt opening.budget (total_of m these)) refl
   where
-    next : ((those : List Thread) → AreExact m those → Enough opening n those → ComesTo m opening those (outcome_of m opening (turns m opening n those))) → total_of m these ≤ opening.budget →
-        (o : Option (ℕ × Place)) → soonest m (events_of m opening these) 0 these ≡ o → ComesTo m opening these (outcome_of m opening (goes_on (turns m opening n) m opening these o))
+    next : ((those : List Thread) → AreExact m those → Enough opening n those → ComesTo m opening those (outcome_of m opening (transitions m opening n those))) → total_of m these ≤ opening.budget →
+        (o : Option (ℕ × Place)) → soonest m (events_of m opening these) 0 these ≡ o → ComesTo m opening these (outcome_of m opening (goes_on (transitions m opening n) m opening these o))
     next rest le None e = AtEnd these le e
     next rest le (Some r) e =
         let t = turned m a opening these exact r e in
         let w = t.more in
-        let those = turn_of m opening these r.0 (slice_get these r.0) in
-        AfterTurn these r (outcome_of m opening (turns m opening n those)) le e (rest those t.exact (omega (arith, w, enough)))
+        let those = transition_of m opening these r.0 (slice_get these r.0) in
+        AfterTransition these r (outcome_of m opening (transitions m opening n those)) le e (rest those t.exact (omega (arith, w, enough)))
 
-    test : ((those : List Thread) → AreExact m those → Enough opening n those → ComesTo m opening those (outcome_of m opening (turns m opening n those))) → (c : Bool) → nat_lt opening.budget (total_of m these) ≡ c →
-        ComesTo m opening these (outcome_of m opening (cond c OverBudget (goes_on (turns m opening n) m opening these (soonest m (events_of m opening these) 0 these))))
+    test : ((those : List Thread) → AreExact m those → Enough opening n those → ComesTo m opening those (outcome_of m opening (transitions m opening n those))) → (c : Bool) → nat_lt opening.budget (total_of m these) ≡ c →
+        ComesTo m opening these (outcome_of m opening (cond c OverBudget (goes_on (transitions m opening n) m opening these (soonest m (events_of m opening these) 0 these))))
     test rest true e = AboveBudget these (over e)
     test rest false e = next rest (not_over e) (soonest m (events_of m opening these) 0 these) refl
 
@@ -179,34 +180,34 @@ opening_exact : (m : ThreadMeaning) → AreActs m → (opening : Opening) → Ar
 unfolding AreExact
 opening_exact m a opening k t has = let s = start_of opening.starts k t has in subst (IsExact m) (sym s.2) (exact_fresh m s.0 ((acts_live m a).nothing s.0))
 
--- **turns come to an end**
-pub turns_end : TurnsEnd
+-- **transitions come to an end**
+pub transitions_end : TransitionsEnd
 unfolding meaning_by ending_of Enough
-turns_end m a opening = comes_to m a opening (enough_turns opening.budget) (opening_world opening) (opening_exact m a opening) (omega arith)
+transitions_end m a opening = comes_to m a opening (enough_transitions opening.budget) (opening_world opening) (opening_exact m a opening) (omega arith)
 
 -- so each session means something
 pub meaning_is_total : ((texts : Texts) (until : Fraction) → AreActs (threads_of texts until)) → MeaningIsTotal
 unfolding meaning
-meaning_is_total acts opening = turns_end (threads_of opening.texts opening.options.until) (acts opening.texts opening.options.until) (opening_of opening)
+meaning_is_total acts opening = transitions_end (threads_of opening.texts opening.options.until) (acts opening.texts opening.options.until) (opening_of opening)
 
 -- a world comes to one outcome
 one_end : (m : ThreadMeaning) (opening : Opening) (these : List Thread) (x y : Outcome) → ComesTo m opening these x → ComesTo m opening these y → x ≡ y
 one_end m opening _ _ _ (AboveBudget these lt) (AboveBudget _ lt') = refl
 one_end m opening _ _ _ (AboveBudget these lt) (AtEnd _ le e) = absurd (omega (arith, lt, le))
-one_end m opening _ _ _ (AboveBudget these lt) (AfterTurn _ next o le e c) = absurd (omega (arith, lt, le))
+one_end m opening _ _ _ (AboveBudget these lt) (AfterTransition _ next o le e c) = absurd (omega (arith, lt, le))
 one_end m opening _ _ _ (AtEnd these le e) (AboveBudget _ lt) = absurd (omega (arith, lt, le))
 one_end m opening _ _ _ (AtEnd these le e) (AtEnd _ le' e') = refl
-one_end m opening _ _ _ (AtEnd these le e) (AfterTurn _ next o le' e' c) = absurd (none_some (sym e ∙ e'))
-one_end m opening _ _ _ (AfterTurn these next o le e c) (AboveBudget _ lt) = absurd (omega (arith, lt, le))
-one_end m opening _ _ _ (AfterTurn these next o le e c) (AtEnd _ le' e') = absurd (none_some (sym e' ∙ e))
-one_end m opening _ _ _ (AfterTurn these next o le e c) (AfterTurn _ next' o' le' e' c') =
+one_end m opening _ _ _ (AtEnd these le e) (AfterTransition _ next o le' e' c) = absurd (none_some (sym e ∙ e'))
+one_end m opening _ _ _ (AfterTransition these next o le e c) (AboveBudget _ lt) = absurd (omega (arith, lt, le))
+one_end m opening _ _ _ (AfterTransition these next o le e c) (AtEnd _ le' e') = absurd (none_some (sym e' ∙ e))
+one_end m opening _ _ _ (AfterTransition these next o le e c) (AfterTransition _ next' o' le' e' c') =
     let both : Some next ≡ Some next' = sym e ∙ e' in
     let same : next ≡ next' = cc in
-    one_end m opening (turn_of m opening these next.0 (slice_get these next.0)) o o' c (subst (λ n. ComesTo m opening (turn_of m opening these n.0 (slice_get these n.0)) o') (sym same) c')
+    one_end m opening (transition_of m opening these next.0 (slice_get these next.0)) o o' c (subst (λ n. ComesTo m opening (transition_of m opening these n.0 (slice_get these n.0)) o') (sym same) c')
 
 -- **and to one end**
-pub turns_end_once : TurnsEndOnce
-turns_end_once m a opening outcome comes = one_end m opening (opening_world opening) outcome (meaning_by m opening) comes (turns_end m a opening)
+pub transitions_end_once : TransitionsEndOnce
+transitions_end_once m a opening outcome comes = one_end m opening (opening_world opening) outcome (meaning_by m opening) comes (transitions_end m a opening)
 
 pub meaning_is_one : MeaningIsTotal → MeaningIsOne
 meaning_is_one total opening outcome comes = one_end (threads_of opening.texts opening.options.until) (opening_of opening) (opening_world (opening_of opening)) outcome (meaning opening) comes (total opening)

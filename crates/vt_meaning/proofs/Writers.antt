@@ -7,9 +7,10 @@ use Rattle.vt_event.specs.declared.place.Place.{Place}
 use Rattle.vt_path.specs.declared.pattern.Segment.{Segment}
 use Rattle.vt_run.specs.Standing.{Asks, Asleep, Over, Ready, Stance, Waits}
 use Rattle.vt_run.specs.declared.start.Start.{Start}
-use Rattle.vt_meaning.specs.Bounds.{Disturbs, GoesOn, IsCandidate, IsFinal, Quiet, StandsBelow}
+use Rattle.vt_meaning.specs.Bounds.{Disturbs, IsCandidate, Quiet, StandsBelow}
 use Rattle.vt_meaning.specs.Bounds.Disturbs.{Feeds, Writes}
 use Rattle.vt_meaning.specs.LookUps.{matches_event}
+use Rattle.vt_meaning.specs.NextPlaces.{GoesOn, NoneSooner}
 use Rattle.vt_meaning.specs.Places.{Before}
 use Rattle.vt_meaning.specs.ThreadMeaning.{may_meet, meets, patterns_of, ThreadMeaning, Wants}
 use Rattle.vt_meaning.specs.Traces.{stance_in, Thread, waiting}
@@ -84,7 +85,7 @@ hot_calm m opening these place pattern quiet k thread b has hot on lt =
     quiet thread b (hot_disturbs m these place pattern thread (record { at = k; has = has; below = stands_below m opening these (stance_in m thread) b place on lt }) hot) on lt
 
 -- **the front is enough for a read to be final**
-pub final_quiet : (m : ThreadMeaning) (opening : Opening) (these : List Thread) (place : Place) (pattern : List Segment) → IsFinal m opening these place → Quiet m opening these place pattern
+pub final_quiet : (m : ThreadMeaning) (opening : Opening) (these : List Thread) (place : Place) (pattern : List Segment) → NoneSooner m opening these place → Quiet m opening these place pattern
 final_quiet m opening these place pattern final t b d on lt = let c = is_candidate m these place pattern t d in not_both b place lt (final c.at t b c.has on)
 
 -- **and needed, with every write allowed**

@@ -1,39 +1,35 @@
 -- Bounds, and when a read or a wait is final: own.
 --
--- A thread goes on at its bound as things stand; that of one that waits falls where an earlier match is published. The front is the least bound of all threads: nothing is published below it any more. A wait is final where the front is above what it finds. A read is final where no thread that may yet write what it asks for has a bound below it.
-use Rattle.std.specs.Prelude.{◌≡◌, ℕ, List, true, Some, slice_get}
+-- The bound of a thread is the place at which it goes on as things stand; that of one that waits falls where an earlier match is published. The front is the least bound of all threads: nothing is published below it any more. A wait is final where the front is above what it finds. A read is final where no thread that may yet write what it asks for has a bound below it.
+use Rattle.std.specs.Prelude.{◌≡◌, ℕ, List, true, Option, Some, None, slice_get}
 use Rattle.vt_path.specs.declared.pattern.Segment.{Segment}
 use Rattle.vt_event.specs.declared.place.Place.{Place}
-use Rattle.vt_event.specs.Event.{EventView}
 use Rattle.vt_run.specs.Standing.{Stance, Ready, Asks, Waits, Asleep, Over}
-use Rattle.vt_meaning.specs.Happenings.{Above}
+use Rattle.vt_meaning.specs.NextPlaces.{GoesOn, IsFinished, NoneSooner}
 use Rattle.vt_meaning.specs.Places.{Before, Upto}
 use Rattle.vt_meaning.specs.ThreadMeaning.{ThreadMeaning, Wants, may_meet}
-use Rattle.vt_meaning.specs.Traces.{Thread, stance_in, waiting, wake}
+use Rattle.vt_meaning.specs.Traces.{Thread, stance_in, waiting}
 use Rattle.vt_meaning.specs.World.{Opening}
 
--- The place is one at which a thread that stands so may go on. A thread that waits goes on where an event that it wants wakes it; its bound is the least of these.
-abbrev pub GoesOn : ThreadMeaning → Opening → List Thread → Stance → Place → Type 0
-GoesOn m opening threads (Ready place) bound = bound ≡ place
-GoesOn m opening threads (Asks place pattern) bound = bound ≡ place
-GoesOn m opening threads (Waits place pattern stop) bound =
-    (event : EventView) × Above m opening threads place (record { pattern = pattern; stop = stop }) event × (bound ≡ wake event place)
-GoesOn m opening threads (Asleep time) bound = ⊥
-GoesOn m opening threads Over bound = ⊥
+-- the bound of a thread that stands so, if it has one: the least place at which it may go on
+abbrev pub IsBound : ThreadMeaning → Opening → List Thread → Stance → Option Place → Type 0
+IsBound m opening threads stance None = (next : Place) → GoesOn m opening threads stance next → ⊥
+IsBound m opening threads stance (Some bound) = GoesOn m opening threads stance bound × ((next : Place) → GoesOn m opening threads stance next → Upto bound next)
 
--- no thread goes on
-abbrev pub IsFinished : ThreadMeaning → Opening → List Thread → Type 0
-IsFinished m opening threads = (number : ℕ) (thread : Thread) (bound : Place) → slice_get threads number ≡ Some thread → GoesOn m opening threads (stance_in m thread) bound → ⊥
+-- the front, if there is one: the least bound, with the number of a thread that has it
+abbrev pub IsFront : ThreadMeaning → Opening → List Thread → Option (ℕ × Place) → Type 0
+IsFront m opening threads None = IsFinished m opening threads
+IsFront m opening threads (Some front) =
+    (thread : Thread) × (slice_get threads front.0 ≡ Some thread) × IsBound m opening threads (stance_in m thread) (Some front.1) × NoneSooner m opening threads front.1
+
+abbrev pub place_of_front : Option (ℕ × Place) → Option Place
+place_of_front None = None
+place_of_front (Some front) = Some front.1
 
 -- the front is above the place
 abbrev pub Clear : ThreadMeaning → Opening → List Thread → Place → Type 0
 Clear m opening threads place =
     (number : ℕ) (thread : Thread) (bound : Place) → slice_get threads number ≡ Some thread → GoesOn m opening threads (stance_in m thread) bound → Before place bound
-
--- the front is not below the place
-abbrev pub IsFinal : ThreadMeaning → Opening → List Thread → Place → Type 0
-IsFinal m opening threads place =
-    (number : ℕ) (thread : Thread) (bound : Place) → slice_get threads number ≡ Some thread → GoesOn m opening threads (stance_in m thread) bound → Upto place bound
 
 -- A thread that stands so is neither over nor past the horizon, and stands below the place. One that asks or waits stands where it does so.
 abbrev pub StandsBelow : Stance → Place → Type 0

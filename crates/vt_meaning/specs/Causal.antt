@@ -179,18 +179,36 @@ Streams =
     (world1 : List Thread) × (world2 : List Thread) × (rest : List EventView) × (last : List EventView) × (ending_of m1 (cut m1.until opening) ≡ Ends world1) × (ending_of m2 (cut m2.until opening) ≡ Ends world2)
     × (score m2 (cut m2.until opening) world2 ≡ score m1 (cut m1.until opening) world1 ++ rest) × (score m' opening world' ≡ score m2 (cut m2.until opening) world2 ++ last)
 
--- **agreement of two sessions**, where each thread may write everything: of two stores of sessions that share what stands below a time what both have done of a thread there is the same, and what one has done there below the front of the other the other has done too
-abbrev pub SessionsAgree : Type 0
-SessionsAgree =
-    (limit : Fraction) (fit : Start → Bool) (known : EventView → Bool) (m m' : ThreadMeaning) (opening opening' : Opening) → IsSession m opening → IsSession m' opening' → AgreeBelow limit fit known m m' opening opening' →
-    ((start : Start) (pattern : List Segment) → m.may start pattern ≡ true) → ((start : Start) (pattern : List Segment) → m'.may start pattern ≡ true) →
-    (threads others : List Thread) → IsConsistent m opening threads → IsConsistent m' opening' others →
+-- of two stores of two sessions what both have done of a thread at times below the limit is the same, and what one has done there below the front of the other the other has done too
+abbrev pub AgreeThere : Fraction → ThreadMeaning → ThreadMeaning → Opening → List Thread → List Thread → Type 0
+AgreeThere limit m m' opening' threads others =
     ((number other step : ℕ) (thread twin : Thread) (place at : Place) → slice_get threads number ≡ Some thread → slice_get others other ≡ Some twin → thread.start ≡ twin.start →
     step ≤ length (trace m thread) → step ≤ length (trace m' twin) → standing m thread.start (take step (trace m thread)) ≡ Ready place → standing m' twin.start (take step (trace m' twin)) ≡ Ready at →
     Earlier place.time limit → take step (trace m thread) ≡ take step (trace m' twin))
     × ((number step : ℕ) (thread : Thread) (entry : Entry) (place : Place) → slice_get threads number ≡ Some thread → slice_get (trace m thread) step ≡ Some entry → standing m thread.start (take step (trace m thread)) ≡ Ready place →
     Earlier place.time limit → Clear m' opening' others place →
     (at : ℕ) × (twin : Thread) × (done : Entry) × (slice_get others at ≡ Some twin) × (thread.start ≡ twin.start) × (take step (trace m thread) ≡ take step (trace m' twin)) × (slice_get (trace m' twin) step ≡ Some done) × (entry.step ≡ done.step))
+
+-- **agreement of two sessions**, where each thread may write everything: so do two stores of sessions that share what stands below a time
+abbrev pub SessionsAgree : Type 0
+SessionsAgree =
+    (limit : Fraction) (fit : Start → Bool) (known : EventView → Bool) (m m' : ThreadMeaning) (opening opening' : Opening) → IsSession m opening → IsSession m' opening' → AgreeBelow limit fit known m m' opening opening' →
+    ((start : Start) (pattern : List Segment) → m.may start pattern ≡ true) → ((start : Start) (pattern : List Segment) → m'.may start pattern ≡ true) →
+    (threads others : List Thread) → IsConsistent m opening threads → IsConsistent m' opening' others → AgreeThere limit m m' opening' threads others
+
+-- what threads of the second session do at times below the limit, where they were fed by what stands there, is within the reach of the first one
+pub record MayToo (limit : Fraction) (fit : Start → Bool) (known : EventView → Bool) (m m' : ThreadMeaning) : Type 0 where
+  pub writes : (thread : Thread) (step : ℕ) (entry : Entry) (event : EventView) (pattern : List Segment) → IsFedBy fit known m' thread step → slice_get (trace m' thread) step ≡ Some entry → entry.step.action ≡ Some (Emit event) → Earlier event.place.time limit →
+      matches_event pattern event ≡ true → m.may thread.start pattern ≡ true
+  pub passes : (thread : Thread) (step : ℕ) (entry : Entry) (place : Place) (start : Start) (pattern : List Segment) → IsFedBy fit known m' thread step → slice_get (trace m' thread) step ≡ Some entry → entry.step.action ≡ Some (Spawn place start) → Earlier place.time limit →
+      m.may start pattern ≡ true → m.may thread.start pattern ≡ true
+
+-- **and with any reach**: where the sessions share what stands below the limit each way, and each one's reach has what the threads of the other do there
+abbrev pub SessionsAgreeByReach : Type 0
+SessionsAgreeByReach =
+    (limit : Fraction) (fit : Start → Bool) (known : EventView → Bool) (m m' : ThreadMeaning) (opening opening' : Opening) → IsSession m opening → IsSession m' opening' →
+    AgreeBelow limit fit known m m' opening opening' → AgreeBelow limit fit known m' m opening' opening → MayToo limit fit known m m' → MayToo limit fit known m' m →
+    (threads others : List Thread) → IsConsistent m opening threads → IsConsistent m' opening' others → AgreeThere limit m m' opening' threads others
 
 -- **no store has anything at or past the horizon**: no event, and no thread where it may go on
 abbrev pub StoresWithin : Type 0

@@ -1,6 +1,6 @@
 -- What a consistent store holds: own.
 --
--- A store has the threads of a session, as a world has. It may have run them in any order, and published what they did piece by piece. It is consistent where each answer that it gave is the one that it will always be. Nothing here speaks of turns.
+-- A store has the threads of a session, as a world has. It may have run them in any order, and published what they did piece by piece. It is consistent where each answer that it gave is the one that it will always be. Nothing here speaks of transitions.
 use Rattle.std.specs.Prelude.{◌≡◌, ◌⊎◌, ℕ, List, Bool, true, false, Option, Some, None, Contains, count_by, length, slice_get}
 use Rattle.vt_frac.specs.Fraction.{Fraction}
 use Rattle.vt_path.specs.declared.pattern.Segment.{Segment}

@@ -5,10 +5,10 @@ use Rattle.vt_event.specs.declared.place.Place.{Place}
 use Rattle.vt_event.specs.Event.{EventView}
 use Rattle.vt_run.specs.declared.start.Start.{Start}
 use Rattle.vt_run.specs.Standing.{Asks, Asleep, Over, Ready, Stance, Waits}
+use Rattle.vt_meaning.specs.NextPlaces.{next_of, place_in}
 use Rattle.vt_meaning.specs.Places.{is_before}
 use Rattle.vt_meaning.specs.ThreadMeaning.{may_meet, ThreadMeaning}
 use Rattle.vt_meaning.specs.Traces.{stance_in, Thread}
-use Rattle.vt_meaning.specs.Turns.{place_in, soonest}
 use Rattle.vt_meaning.specs.World.{events_of, Opening}
 
 -- whether the front, if there is one, is above the place
@@ -18,7 +18,7 @@ is_above place (Some front) = is_before place front.1
 
 -- the front is above the place
 unfoldable pub is_clear : ThreadMeaning → Opening → List Thread → Place → Bool
-is_clear m opening threads place = is_above place (soonest m (events_of m opening threads) 0 threads)
+is_clear m opening threads place = is_above place (next_of m opening threads)
 
 -- what a test leaves of a list
 abbrev pub sift {ℓ} : {A : Type ℓ} → (A → Bool) → List A → List A

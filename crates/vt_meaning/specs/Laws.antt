@@ -34,7 +34,7 @@ WorkersDoNotMatter = (key : Key) (workers : ℕ) → meaning (with_workers worke
 abbrev pub SessionComesTo : Key → Outcome → Type 0
 SessionComesTo key outcome = ComesTo (threads_of key.texts key.options.until) (opening_of key) (opening_world (opening_of key)) outcome
 
--- Every session means something: the turns from its opening world come to an end, and the meaning is what they come to. So the number of turns in the meaning never changes what it is.
+-- Every session means something: the transitions from its opening world come to an end, and the meaning is what they come to. So the number of transitions in the meaning never changes what it is.
 abbrev pub MeaningIsTotal : Type 0
 MeaningIsTotal = (key : Key) → SessionComesTo key (meaning key)
 
@@ -66,10 +66,10 @@ pub record LookUpsAreRight : Type 0 where
   pub first : (events : List EventView) (place : Place) (wants : List (List Segment)) → HaveOwnPlaces events →
       MatchOption (first_above events place wants) (NoneAbove events place wants) (λ event. IsFirstAbove events place wants event)
 
--- **turns come to an end**: from any opening, whatever its threads do, if they have the laws of steps
-abbrev pub TurnsEnd : Type 0
-TurnsEnd = (m : ThreadMeaning) → AreActs m → (opening : Opening) → ComesTo m opening (opening_world opening) (meaning_by m opening)
+-- **transitions come to an end**: from any opening, whatever its threads do, if they have the laws of steps
+abbrev pub TransitionsEnd : Type 0
+TransitionsEnd = (m : ThreadMeaning) → AreActs m → (opening : Opening) → ComesTo m opening (opening_world opening) (meaning_by m opening)
 
 -- .. and to one end
-abbrev pub TurnsEndOnce : Type 0
-TurnsEndOnce = (m : ThreadMeaning) → AreActs m → (opening : Opening) (outcome : Outcome) → ComesTo m opening (opening_world opening) outcome → outcome ≡ meaning_by m opening
+abbrev pub TransitionsEndOnce : Type 0
+TransitionsEndOnce = (m : ThreadMeaning) → AreActs m → (opening : Opening) (outcome : Outcome) → ComesTo m opening (opening_world opening) outcome → outcome ≡ meaning_by m opening

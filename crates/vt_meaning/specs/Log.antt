@@ -8,14 +8,14 @@ use Rattle.vt_run.specs.declared.action.Answer.{Answer}
 use Rattle.vt_run.specs.declared.action.Answer.TheVariants.{Found}
 use Rattle.vt_run.specs.declared.start.Start.{Start}
 use Rattle.vt_run.specs.Evaluation.{Step}
+use Rattle.vt_run.specs.Notes.{capped}
 use Rattle.vt_run.specs.Pieces.{or_more, stop_of}
 use Rattle.vt_run.specs.Standing.{Stance, Ready, Asks, Waits}
 use Rattle.vt_meaning.specs.Disturbers.{is_clear, is_quiet}
-use Rattle.vt_meaning.specs.LookUps.{first_above, last_below}
+use Rattle.vt_meaning.specs.LookUps.{answer_of, first_above, last_below}
 use Rattle.vt_meaning.specs.Steps.{more}
 use Rattle.vt_meaning.specs.ThreadMeaning.{ThreadMeaning, with_stop}
 use Rattle.vt_meaning.specs.Traces.{Thread, stance_in}
-use Rattle.vt_meaning.specs.Turns.{answer_of}
 use Rattle.vt_meaning.specs.World.{Opening, World, events_of, opening_world, started_by, told, total_of}
 
 -- what a worker did with a record: it took it, published a piece of it, put it back as it was, or gave its read or its wait the answer
@@ -108,13 +108,13 @@ read_by m opening rows rec row (Asks place pattern) =
 read_by m opening rows rec row _ = rows
 
 -- a wait is answered by an event below the front
-abbrev pub woken_by : ThreadMeaning → Opening → List Row → ℕ → Row → Option EventView → List Row
-woken_by m opening rows rec row None = rows
-woken_by m opening rows rec row (Some event) = cond (is_clear m opening (threads_in rows) event.place) (answered rows rec row (Found event)) rows
+abbrev pub wait_found : ThreadMeaning → Opening → List Row → ℕ → Row → Option EventView → List Row
+wait_found m opening rows rec row None = rows
+wait_found m opening rows rec row (Some event) = cond (is_clear m opening (threads_in rows) event.place) (answered rows rec row (Found event)) rows
 
 abbrev pub wait_by : ThreadMeaning → Opening → List Row → ℕ → Row → Stance → List Row
 wait_by m opening rows rec row (Waits place pattern stop) =
-    woken_by m opening rows rec row (first_above (events_of m opening (threads_in rows)) place (with_stop pattern stop))
+    wait_found m opening rows rec row (first_above (events_of m opening (threads_in rows)) place (with_stop pattern stop))
 wait_by m opening rows rec row _ = rows
 
 abbrev pub deed_on : ThreadMeaning → Opening → List Row → ℕ → ℕ → Row → Deed → List Row
@@ -140,15 +140,16 @@ after_entries m opening (entry ∷ entries) rows = after_entries m opening entri
 abbrev pub opening_rows : Opening → List Row
 opening_rows opening = map fresh_row (opening_world opening)
 
--- the records that a log leaves; the events and the total are those of their threads
+-- the records that a log leaves; the events are those of their threads
 unfoldable pub after : ThreadMeaning → Opening → List LogEntry → List Row
 after m opening log = after_entries m opening log (opening_rows opening)
 
 abbrev pub events_after : ThreadMeaning → Opening → List LogEntry → List EventView
 events_after m opening log = events_of m opening (threads_in (after m opening log))
 
+-- the total of a store: what the steps of its threads cost, or 2^64 - 1 where that is more
 abbrev pub total_after : ThreadMeaning → Opening → List LogEntry → ℕ
-total_after m opening log = total_of m (threads_in (after m opening log))
+total_after m opening log = capped (total_of m (threads_in (after m opening log)))
 
 -- A job: the number of the record that is out, its start, its answers, its mark (how many steps it has done), and the answer that goes with it.
 pub record JobData : Type 0 where

@@ -10,6 +10,8 @@ use Rattle.vt_event.specs.declared.kind.Kind.{Kind}
 use Rattle.vt_event.specs.declared.kind.Kind.TheVariants.{Took}
 use Rattle.vt_event.specs.declared.place.Place.{Place}
 use Rattle.vt_event.specs.Event.{EventView}
+use Rattle.vt_run.specs.declared.action.Answer.{Answer}
+use Rattle.vt_run.specs.declared.action.Answer.TheVariants.{Nothing, Found}
 use Rattle.vt_meaning.specs.Places.{is_before}
 
 -- brackets hold a byte
@@ -107,3 +109,8 @@ first_above (event ∷ events) place wants =
     cond (is_before place event.place && meets_wants wants event)
     (Some (lower event (first_above events place wants)))
     (first_above events place wants)
+
+-- the answer to a read
+abbrev pub answer_of : Option EventView → Answer
+answer_of None = Nothing
+answer_of (Some event) = Found event

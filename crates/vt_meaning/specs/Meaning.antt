@@ -1,5 +1,5 @@
--- The meaning of a session: turns from the opening world until no thread goes on, or until the budget is spent. After FARM 2014, extended by cues and the time state; costs and the budget are own.
-use Rattle.std.specs.Prelude.{ℕ, zero, suc, ◌+◌, ◌*◌, List, [], ◌∷◌, ◌++◌, Bool, cond, nat_lt, Option, Some, None, slice_get}
+-- The meaning of a session: transitions from the opening world until no thread goes on, or until the budget is spent. After FARM 2014, extended by cues and the time state; costs and the budget are own.
+use Rattle.std.specs.Prelude.{ℕ, zero, suc, ◌+◌, ◌*◌, List, [], ◌∷◌, ◌++◌, Bool, cond, nat_lt, Option, Some, None}
 use Rattle.std.specs.Ordering.{is_lt}
 use Rattle.vt_event.specs.declared.place.Place.{Place}
 use Rattle.vt_event.specs.declared.score.Living.{Living}
@@ -11,11 +11,12 @@ use Rattle.vt_event.specs.declared.score.Score.{Score}
 use Rattle.vt_event.specs.Event.{EventView}
 use Rattle.vt_event.specs.Order.{thread_order}
 use Rattle.vt_run.specs.Standing.{Stance, Ready, Asks, Waits, Asleep, Over}
+use Rattle.vt_meaning.specs.NextPlaces.{next_of}
 use Rattle.vt_meaning.specs.Places.{is_before}
 use Rattle.vt_meaning.specs.Session.{Key, opening_of, threads_of}
 use Rattle.vt_meaning.specs.ThreadMeaning.{ThreadMeaning}
 use Rattle.vt_meaning.specs.Traces.{stance_in}
-use Rattle.vt_meaning.specs.Turns.{soonest, turn_of}
+use Rattle.vt_meaning.specs.Transitions.{after_transition}
 use Rattle.vt_meaning.specs.World.{Opening, World, events_of, opening_world, total_of}
 
 -- One more is put among those that are in order: in front of the first that comes after it. Where one stands at its place already, that one stays and the new one is left out.
@@ -64,25 +65,25 @@ pub data Ending : Type 0 where
   OverBudget : Ending
   Ends : World → Ending
 
--- no thread goes on, or the one with the least place has its turn, and the others come after it
+-- no thread goes on, or the one with the least place has its transition, and the rest comes after it
 abbrev pub goes_on : (World → Ending) → ThreadMeaning → Opening → World → Option (ℕ × Place) → Ending
 goes_on rest m opening world None = Ends world
-goes_on rest m opening world (Some next) = rest (turn_of m opening world next.0 (slice_get world next.0))
+goes_on rest m opening world (Some next) = rest (after_transition m opening world next)
 
--- what a world comes to in at most n turns: it is spent as soon as its total is above the budget
-abbrev pub turns : ThreadMeaning → Opening → ℕ → World → Ending
-turns m opening zero world = OverBudget
-turns m opening (suc n) world =
+-- what a world comes to in at most n transitions: it is spent as soon as its total is above the budget
+abbrev pub transitions : ThreadMeaning → Opening → ℕ → World → Ending
+transitions m opening zero world = OverBudget
+transitions m opening (suc n) world =
     cond (nat_lt opening.budget (total_of m world)) OverBudget
-    (goes_on (turns m opening n) m opening world (soonest m (events_of m opening world) 0 world))
+    (goes_on (transitions m opening n) m opening world (next_of m opening world))
 
--- Each turn does a step, which costs at least 1, or answers the ask that a step made: so with this many turns no session runs out of them before its budget is spent.
-abbrev pub enough_turns : ℕ → ℕ
-enough_turns budget = 2 * budget + 2
+-- Each transition does a step, which costs at least 1, or answers the ask that a step made: so with this many transitions no session runs out of them before its budget is spent.
+abbrev pub enough_transitions : ℕ → ℕ
+enough_transitions budget = 2 * budget + 2
 
 -- what the opening world comes to
 unfoldable pub ending_of : ThreadMeaning → Opening → Ending
-ending_of m opening = turns m opening (enough_turns opening.budget) (opening_world opening)
+ending_of m opening = transitions m opening (enough_transitions opening.budget) (opening_world opening)
 
 -- spent, or the score of the world that was come to
 abbrev pub outcome_of : ThreadMeaning → Opening → Ending → Outcome

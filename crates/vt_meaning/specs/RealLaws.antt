@@ -14,21 +14,21 @@ use Rattle.vt_run.specs.Standing.{stands_at}
 use Rattle.vt_run.specs.Threads.{acts}
 use Rattle.vt_state.specs.LookUps.{HaveOwnPlaces}
 use Rattle.vt_event.specs.declared.score.Outcome.TheVariants.{Scored, Spent}
+use Rattle.vt_event.specs.declared.score.Score.{Score}
+use Rattle.vt_meaning.specs.NextPlaces.{IsFinished}
 use Rattle.vt_meaning.specs.Numbers.{OpensLow, StartsLow}
 use Rattle.vt_meaning.specs.Meaning.{meaning, score_of}
-use Rattle.vt_meaning.specs.Bounds.{IsFinished}
-use Rattle.vt_meaning.specs.Causal.{IsPrompt, IsWithin}
+use Rattle.vt_meaning.specs.Causal.{cut, IsPartOf, IsPrompt, IsWithin, lines_below}
 use Rattle.vt_meaning.specs.Consistent.{IsConsistent}
 use Rattle.vt_meaning.specs.Disturbers.{standing_at}
 use Rattle.vt_meaning.specs.Happenings.{FirstOr, IsLast}
-use Rattle.vt_meaning.specs.LookUps.{first_above, last_below, matches_event}
+use Rattle.vt_meaning.specs.LookUps.{answer_of, first_above, last_below, matches_event}
 use Rattle.vt_meaning.specs.Places.{Earlier}
 use Rattle.vt_meaning.specs.Reach.{IsFed, IsKnown}
 use Rattle.vt_meaning.specs.Session.{Key, opening_of, threads_of, with_horizon}
 use Rattle.vt_meaning.specs.ThreadLaws.{AreActs, IsActs, IsGivenApart, IsOrderly, IsSession, IsStartsApart}
 use Rattle.vt_meaning.specs.ThreadMeaning.{patterns_of, ThreadMeaning, Wants}
 use Rattle.vt_meaning.specs.Traces.{Entry, MovesOn, Thread, stance_in, trace}
-use Rattle.vt_meaning.specs.Turns.{answer_of}
 use Rattle.vt_meaning.specs.World.{events_of, Opening, total_of}
 
 -- what texts mean to their threads up to a horizon, whatever is said of what these may write and of what the texts can lead to
@@ -131,7 +131,8 @@ OpeningsAreOrderly = (key : Key) → IsRendered key → IsOpening key
 
 -- .. and all of it stands below the horizon, as does what is started below it
 abbrev pub OpeningsAreWithin : Type 0
-OpeningsAreWithin = (key : Key) → IsRendered key → IsWithin (threads_of key.texts key.options.until) (opening_of key)
+OpeningsAreWithin =
+    (key : Key) (may : Start → List Segment → Bool) (fit : Start → Bool) (known : EventView → Bool) → IsRendered key → IsWithin (threads_with key.texts key.options.until may fit known) (opening_of key)
 
 -- In a consistent set of threads of a session whose given events have places of their own each event has one. So the look-ups find what a read and a wait find by the time state.
 abbrev pub EventsHaveOwnPlaces : Type 0
@@ -151,15 +152,24 @@ NoneStandsPast =
     (m : ThreadMeaning) (opening : Opening) → IsSession m opening → IsWithin m opening → (threads : List Thread) → IsConsistent m opening threads →
     (k : ℕ) (thread : Thread) (place : Place) → slice_get threads k ≡ Some thread → standing_at (stance_in m thread) ≡ Some place → Earlier place.time m.until
 
--- **a session as it is rendered is one of which the theory of stores speaks**
-abbrev pub RenderedIsSession : Type 0
-RenderedIsSession = (key : Key) → IsRendered key → IsSession (threads_of key.texts key.options.until) (opening_of key)
-
--- A store of a rendered session, with any reach that its texts keep within, and which threads it holds.
-pub record IsStoreOf (key : Key) (may : Start → List Segment → Bool) (fit : Start → Bool) (known : EventView → Bool) (threads : List Thread) : Type 0 where
+-- A rendered session, with any reach that its texts keep within and that it begins in.
+pub record IsRenderedWithin (key : Key) (may : Start → List Segment → Bool) (fit : Start → Bool) (known : EventView → Bool) : Type 0 where
   pub rendered : IsRendered key
   pub leading : IsLeading (threads_with key.texts key.options.until may fit known)
   pub begun : IsKnown (threads_with key.texts key.options.until may fit known) (opening_of key)
+
+-- Where each thread may write everything, and the texts lead to everything, nothing more is to be shown.
+abbrev pub AllIsWithin : Type 0
+AllIsWithin = (key : Key) → IsRendered key → IsRenderedWithin key (λ start pattern. true) (λ start. true) (λ event. true)
+
+-- **a session as it is rendered is one of which the theory of stores speaks**, with any such reach
+abbrev pub RenderedIsSession : Type 0
+RenderedIsSession =
+    (key : Key) (may : Start → List Segment → Bool) (fit : Start → Bool) (known : EventView → Bool) → IsRenderedWithin key may fit known → IsSession (threads_with key.texts key.options.until may fit known) (opening_of key)
+
+-- a store of a rendered session: such a reach, and which threads it holds
+pub record IsStoreOf (key : Key) (may : Start → List Segment → Bool) (fit : Start → Bool) (known : EventView → Bool) (threads : List Thread) : Type 0 where
+  pub session : IsRenderedWithin key may fit known
   pub consistent : IsConsistent (threads_with key.texts key.options.until may fit known) (opening_of key) threads
 
 -- **a finished store of a rendered session that is within the budget holds what the session means**
@@ -174,3 +184,19 @@ abbrev pub AboveIsSpent : Type 0
 AboveIsSpent =
     (key : Key) (may : Start → List Segment → Bool) (fit : Start → Bool) (known : EventView → Bool) (threads : List Thread) → IsStoreOf key may fit known threads →
     key.options.budget < total_of (threads_with key.texts key.options.until may fit known) threads → meaning key ≡ Spent
+
+-- Early texts of two rendered sessions fix their early events: by the time as their horizon and with some reach that they keep within, they are a part of what the texts of each session mean, and what the sessions begin with below the time is the same.
+pub record IsEarlyPart (time : Fraction) (early : Texts) (key other : Key) (m : ThreadMeaning) : Type 0 where
+  pub checked : AreChecked early
+  pub horizon : IsFraction time
+  pub leading : IsLeading m
+  pub begun : IsKnown m (cut time (opening_of key))
+  pub part : IsPartOf m (threads_of key.texts key.options.until)
+  pub other_part : IsPartOf m (threads_of other.texts other.options.until)
+  pub same : cut time (opening_of key) ≡ cut time (opening_of other)
+
+-- **causality of rendered sessions**: then their scores have the same events below the time
+abbrev pub EarlyTextsFix : Type 0
+EarlyTextsFix =
+    (time : Fraction) (early : Texts) (key other : Key) (may : Start → List Segment → Bool) (fit : Start → Bool) (known : EventView → Bool) → IsRendered key → IsRendered other → IsEarlyPart time early key other (threads_with early time may fit known) →
+    (score score' : Score) → meaning key ≡ Scored score → meaning other ≡ Scored score' → lines_below time score.events ≡ lines_below time score'.events

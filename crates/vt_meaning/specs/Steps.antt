@@ -33,6 +33,11 @@ pub data Follows (m : ThreadMeaning) (opening : Opening) (threads : List Thread)
   Woken : (number : ℕ) (thread : Thread) (place : Place) (wants : Wants) (event : EventView) → slice_get threads number ≡ Some thread → stance_in m thread ≡ waiting place wants →
       IsFirst m opening threads place wants event → Clear m opening threads event.place → Follows m opening threads (moved_on threads number (told (Found event) thread) None)
 
+-- some such changes, one after another
+pub data Changes (m : ThreadMeaning) (opening : Opening) : List Thread → List Thread → Type 0 where
+  Unchanged : (threads : List Thread) → Changes m opening threads threads
+  Changed : (threads next last : List Thread) → Follows m opening threads next → Changes m opening next last → Changes m opening threads last
+
 -- what a store has to do: a step, or a final answer
 pub data Due (m : ThreadMeaning) (opening : Opening) (threads : List Thread) : Type 0 where
   StepDue : (number : ℕ) (thread : Thread) (place : Place) → slice_get threads number ≡ Some thread → stance_in m thread ≡ Ready place → Due m opening threads

@@ -7,12 +7,12 @@ use Rattle.vt_event.specs.declared.score.Living.{Living}
 use Rattle.vt_frac.specs.Fraction.{Fraction}
 use Rattle.vt_path.specs.declared.pattern.Segment.{Segment}
 use Rattle.vt_run.specs.Actions.{is_past}
-use Rattle.vt_run.specs.Standing.{Asks, Asleep, Over, Ready}
+use Rattle.vt_run.specs.Standing.{Asks, Asleep, Over, Ready, Stance}
 use Rattle.vt_run.specs.declared.action.Action.TheVariants.{Read}
 use Rattle.vt_run.specs.declared.action.Answer.{Answer}
 use Rattle.vt_run.specs.declared.action.Answer.TheVariants.{Found}
 use Rattle.vt_run.specs.declared.start.Start.{Start}
-use Rattle.vt_meaning.specs.Bounds.{Clear, Disturbs, GoesOn, IsCandidate, IsFinal, IsFinished, Quiet}
+use Rattle.vt_meaning.specs.Bounds.{Clear, Disturbs, IsBound, IsCandidate, IsFront, Quiet, place_of_front}
 use Rattle.vt_meaning.specs.Consistent.{IsConsistent}
 use Rattle.vt_meaning.specs.Disturbers.{disturbers, is_clear, is_quiet}
 use Rattle.vt_meaning.specs.Happenings.{Above, Acted, FirstOr, Happened, IsFirst, IsLast}
@@ -20,6 +20,7 @@ use Rattle.vt_meaning.specs.LookUps.{lower}
 use Rattle.vt_meaning.specs.Meaning.{Ending, ending_of, living_in, meaning_by, outcome_of, score_of, state_in}
 use Rattle.vt_meaning.specs.Meaning.Ending.{Ends, OverBudget}
 use Rattle.vt_meaning.specs.Means.{Means}
+use Rattle.vt_meaning.specs.NextPlaces.{GoesOn, IsFinished, NoneSooner, next_of, place_in}
 use Rattle.vt_meaning.specs.Places.{Before}
 use Rattle.vt_meaning.specs.Steps.{Due, Follows, more, published}
 use Rattle.vt_meaning.specs.ThreadLaws.{IsSession}
@@ -69,6 +70,21 @@ FirstOfTwo =
 -- the front is above a place where its test says so
 abbrev pub FrontRight : Type 0
 FrontRight = (m : ThreadMeaning) (opening : Opening) (threads : List Thread) (place : Place) → (is_clear m opening threads place ≡ true) ↔ Clear m opening threads place
+
+-- the place at which a thread goes on is its bound, and the soonest one is the front
+abbrev pub BoundsAreLeast : Type 0
+BoundsAreLeast = (m : ThreadMeaning) (opening : Opening) (threads : List Thread) (stance : Stance) → IsBound m opening threads stance (place_in (events_of m opening threads) stance)
+
+abbrev pub FrontIsLeast : Type 0
+FrontIsLeast = (m : ThreadMeaning) (opening : Opening) (threads : List Thread) → IsFront m opening threads (next_of m opening threads)
+
+-- and there is one bound, and one front
+abbrev pub BoundsAreOne : Type 0
+BoundsAreOne = (m : ThreadMeaning) (opening : Opening) (threads : List Thread) (stance : Stance) (one other : Option Place) → IsBound m opening threads stance one → IsBound m opening threads stance other → one ≡ other
+
+abbrev pub FrontsAreOne : Type 0
+FrontsAreOne =
+    (m : ThreadMeaning) (opening : Opening) (threads : List Thread) (one other : Option (ℕ × Place)) → IsFront m opening threads one → IsFront m opening threads other → place_of_front one ≡ place_of_front other
 
 -- **a finished consistent store within the budget holds what its session means**, which is then not spent
 abbrev pub FinishedHolds : Type 0
@@ -200,7 +216,7 @@ MarksTell =
 abbrev pub FrontReads : Type 0
 FrontReads =
     (m : ThreadMeaning) (opening : Opening) (threads : List Thread) (place : Place) (pattern : List Segment) →
-    (IsFinal m opening threads place → Quiet m opening threads place pattern)
+    (NoneSooner m opening threads place → Quiet m opening threads place pattern)
     × (((start : Start) → m.may start pattern ≡ true → ⊥) → Quiet m opening threads place pattern)
     × (((start : Start) (wanted : List Segment) → m.may start wanted ≡ true) → Quiet m opening threads place pattern → (number : ℕ) (thread : Thread) (bound : Place) → slice_get threads number ≡ Some thread → GoesOn m opening threads (stance_in m thread) bound → Before bound place → ⊥)
 

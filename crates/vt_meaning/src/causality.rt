@@ -1,6 +1,6 @@
 //! The laws of what comes early: what stands below a time fixes the events below it. Each contract is a law.
 
-ghost use Rattle.vt_meaning.specs.Causal.{ActsEnough, AllWithin, Causal, CutIsPart, Horizons, KnownIsPart, LeftOut, LinesBegin, Nearer, OnePart, PartsSame, SessionsAgree, StoresWithin, Streams};
+ghost use Rattle.vt_meaning.specs.Causal.{ActsEnough, AllWithin, Causal, CutIsPart, Horizons, KnownIsPart, LeftOut, LinesBegin, Nearer, OnePart, PartsSame, SessionsAgree, SessionsAgreeByReach, StoresWithin, Streams};
 
 /// Causality: two sessions that share what stands below a time have the same events below it, where neither is spent. So
 /// do two of which the same session is a part below a horizon.
@@ -43,7 +43,8 @@ pub fn parts_are_found_by_steps()
 
 /// Two stores of sessions that share what stands below a time agree there, where each thread may write everything.
 pub fn sessions_agree()
-    ensures { SessionsAgree }
+    ensures all { SessionsAgree }
+    ensures reach { SessionsAgreeByReach }
 {}
 
 /// No store has an event, or a thread that may go on, at or past the horizon.

@@ -1,10 +1,10 @@
 //! The laws of the meaning of a session. Each contract is a law; where a body calls a law of a thread, the law rests on it.
 
-ghost use Rattle.vt_meaning.specs.Laws.{LookUpsAreRight, MatchTestIsRight, MeaningIsOne, MeaningIsTotal, OpeningThreadsAreOfTexts, TurnsEnd, TurnsEndOnce, WorkersDoNotMatter};
+ghost use Rattle.vt_meaning.specs.Laws.{LookUpsAreRight, MatchTestIsRight, MeaningIsOne, MeaningIsTotal, OpeningThreadsAreOfTexts, TransitionsEnd, TransitionsEndOnce, WorkersDoNotMatter};
 
 use crate::real_threads::threads_of_texts_act;
 
-/// Every session means something: its turns come to an end.
+/// Every session means something: its transitions come to an end.
 pub fn meaning_is_total()
     ensures { MeaningIsTotal }
 {
@@ -38,12 +38,12 @@ pub fn look_ups_are_right()
     ensures { LookUpsAreRight }
 {}
 
-/// Turns come to an end from any opening, within twice the budget and two, if the threads have the laws of steps.
-pub fn turns_come_to_an_end()
-    ensures { TurnsEnd }
+/// Transitions come to an end from any opening, within twice the budget and two, if the threads have the laws of steps.
+pub fn transitions_come_to_an_end()
+    ensures { TransitionsEnd }
 {}
 
 /// They come to one end.
-pub fn turns_come_to_one_end()
-    ensures { TurnsEndOnce }
+pub fn transitions_come_to_one_end()
+    ensures { TransitionsEndOnce }
 {}

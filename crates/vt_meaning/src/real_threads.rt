@@ -1,8 +1,9 @@
 //! The laws of the threads of texts, as the meaning of a session takes them. Each contract is a law; where a body calls a law of a thread, the law rests on it.
 
-ghost use Rattle.vt_meaning.specs.RealLaws.{AboveIsSpent, EventsHaveOwnPlaces, FinishedIsMeant, LookUpsFind, NoneStandsPast, OpeningsAreOrderly, OpeningsAreWithin, RenderedIsSession, TextsAct, TextsAreActs, TextsArePrompt, TextsBreed, TextsMove, TextsStand, TextsStartLow, TextsTell};
+ghost use Rattle.vt_meaning.specs.RealLaws.{AboveIsSpent, AllIsWithin, EarlyTextsFix, EventsHaveOwnPlaces, FinishedIsMeant, LookUpsFind, NoneStandsPast, OpeningsAreOrderly, OpeningsAreWithin, RenderedIsSession, TextsAct, TextsAreActs, TextsArePrompt, TextsBreed, TextsMove, TextsStand, TextsStartLow, TextsTell};
 ghost use Rattle.vt_meaning.specs.Reached.{ReachedWorldsAreRight};
 
+use crate::causality::early_events_are_fixed;
 use crate::laws::look_ups_are_right;
 use crate::stores::{finished_stores_hold_the_meaning, stores_stay_within_the_budget};
 
@@ -83,9 +84,10 @@ pub fn threads_of_texts_have_the_laws()
     threads_of_texts_tell();
 }
 
-/// A session as it is rendered is one of which the theory of stores speaks.
+/// A session as it is rendered is one of which the theory of stores speaks, with each reach that its texts keep within. One in which all may be written is such.
 pub fn rendered_sessions_have_the_laws()
-    ensures { RenderedIsSession }
+    ensures session { RenderedIsSession }
+    ensures all { AllIsWithin }
 {
     threads_of_texts_have_the_laws();
     openings_are_orderly();
@@ -129,15 +131,14 @@ pub fn rendered_stores_hold_the_meaning()
     ensures finished { FinishedIsMeant }
     ensures above { AboveIsSpent }
 {
-    threads_of_texts_have_the_laws();
-    openings_are_orderly();
+    rendered_sessions_have_the_laws();
     finished_stores_hold_the_meaning();
     stores_stay_within_the_budget();
 }
 
-/// In each world that the turns of a rendered session reach the look-ups find what a read and a wait find by the time state,
+/// In each world that the transitions of a rendered session reach the look-ups find what a read and a wait find by the time state,
 /// and no thread stands at or past the horizon.
-pub fn turns_reach_right_worlds()
+pub fn transitions_reach_right_worlds()
     ensures { ReachedWorldsAreRight }
 {
     rendered_sessions_have_the_laws();
@@ -146,4 +147,14 @@ pub fn turns_reach_right_worlds()
     events_have_own_places();
     no_thread_stands_past_the_horizon();
     look_ups_are_right();
+}
+
+/// Causality of rendered sessions: texts that are an early part of two sessions fix the events of both below their horizon.
+pub fn early_texts_fix_early_events()
+    ensures { EarlyTextsFix }
+{
+    threads_of_texts_have_the_laws();
+    threads_of_texts_are_prompt();
+    rendered_sessions_have_the_laws();
+    early_events_are_fixed();
 }

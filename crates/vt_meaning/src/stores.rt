@@ -1,7 +1,7 @@
 //! The laws of stores: what is proved of a set of threads of a session that some workers ran, against the meaning. Each contract is a law.
 
 ghost use Rattle.vt_meaning.specs.Numbers.{NumbersStayLow};
-ghost use Rattle.vt_meaning.specs.Theorems.{DisturbersRight, FinalStays, FinishedHolds, FirstOfTwo, FrontReads, FrontRight, FrontStays, LivingRight, MarksEnough, MarksTell, NeverAbove, Opens, PiecesAdd, PiecesKeep, Progress, ReadsEnable, ReadsKeep, ReadsPass, ReadsPassed, RelationIsMeaning, ScoresHaveAll, StepsKeep, StoresAgree, WaitsEnable, WaitsKeep, WaitsPass};
+ghost use Rattle.vt_meaning.specs.Theorems.{BoundsAreLeast, BoundsAreOne, DisturbersRight, FinalStays, FinishedHolds, FirstOfTwo, FrontIsLeast, FrontReads, FrontRight, FrontsAreOne, FrontStays, LivingRight, MarksEnough, MarksTell, NeverAbove, Opens, PiecesAdd, PiecesKeep, Progress, ReadsEnable, ReadsKeep, ReadsPass, ReadsPassed, RelationIsMeaning, ScoresHaveAll, StepsKeep, StoresAgree, WaitsEnable, WaitsKeep, WaitsPass};
 
 /// A finished consistent store that is within the budget holds what the session means, and the session is not spent.
 pub fn finished_stores_hold_the_meaning()
@@ -54,6 +54,14 @@ pub fn something_is_due()
 /// The list of the disturbers of a read is the least set, and the test of a final read is right.
 pub fn disturbers_are_listed()
     ensures { DisturbersRight }
+{}
+
+/// The place at which a thread goes on is its bound, the least of those at which it may; the soonest of all is the front. There is one bound of a thread, and one front.
+pub fn bounds_are_least()
+    ensures bound { BoundsAreLeast }
+    ensures front { FrontIsLeast }
+    ensures one_bound { BoundsAreOne }
+    ensures one_front { FrontsAreOne }
 {}
 
 /// The test of the front is right.

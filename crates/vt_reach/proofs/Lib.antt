@@ -1,7 +1,7 @@
-mod InnerLemmas
+pub mod InnerLemmas
 mod PathLemmas
-mod Places
+pub mod Places
 mod ReachLemmas
 mod SearchLemmas
-mod TreeFounds
-mod TreeUses
+pub mod TreeFounds
+pub mod TreeUses

@@ -35,31 +35,31 @@ abbrev CallTree : Type 0
 CallTree = Call-F Node Simple StmtForm Call Expr Link Arm Block Stmt
 
 -- with what is found in each child in its place
-abbrev node_of : NodeTree → OfFound Node-F
+abbrev pub node_of : NodeTree → OfFound Node-F
 node_of = at_found (map-Node Node Simple StmtForm Call Expr Link Arm Block Stmt) node_seen simple_found form_found call_found expr_seen link_found arm_found inside_found stmt_found
 
-abbrev simple_of : Simple-F Node Simple StmtForm Call Expr Link Arm Block Stmt → OfFound Simple-F
+abbrev pub simple_of : Simple-F Node Simple StmtForm Call Expr Link Arm Block Stmt → OfFound Simple-F
 simple_of = at_found (map-Simple Node Simple StmtForm Call Expr Link Arm Block Stmt) node_seen simple_found form_found call_found expr_seen link_found arm_found inside_found stmt_found
 
-abbrev form_of : StmtForm-F Node Simple StmtForm Call Expr Link Arm Block Stmt → OfFound StmtForm-F
+abbrev pub form_of : StmtForm-F Node Simple StmtForm Call Expr Link Arm Block Stmt → OfFound StmtForm-F
 form_of = at_found (map-StmtForm Node Simple StmtForm Call Expr Link Arm Block Stmt) node_seen simple_found form_found call_found expr_seen link_found arm_found inside_found stmt_found
 
-abbrev call_of : CallTree → OfFound Call-F
+abbrev pub call_of : CallTree → OfFound Call-F
 call_of = at_found (map-Call Node Simple StmtForm Call Expr Link Arm Block Stmt) node_seen simple_found form_found call_found expr_seen link_found arm_found inside_found stmt_found
 
-abbrev expr_of : Expr-F Node Simple StmtForm Call Expr Link Arm Block Stmt → OfFound Expr-F
+abbrev pub expr_of : Expr-F Node Simple StmtForm Call Expr Link Arm Block Stmt → OfFound Expr-F
 expr_of = at_found (map-Expr Node Simple StmtForm Call Expr Link Arm Block Stmt) node_seen simple_found form_found call_found expr_seen link_found arm_found inside_found stmt_found
 
-abbrev link_of : Link-F Node Simple StmtForm Call Expr Link Arm Block Stmt → OfFound Link-F
+abbrev pub link_of : Link-F Node Simple StmtForm Call Expr Link Arm Block Stmt → OfFound Link-F
 link_of = at_found (map-Link Node Simple StmtForm Call Expr Link Arm Block Stmt) node_seen simple_found form_found call_found expr_seen link_found arm_found inside_found stmt_found
 
-abbrev arm_of : Arm-F Node Simple StmtForm Call Expr Link Arm Block Stmt → OfFound Arm-F
+abbrev pub arm_of : Arm-F Node Simple StmtForm Call Expr Link Arm Block Stmt → OfFound Arm-F
 arm_of = at_found (map-Arm Node Simple StmtForm Call Expr Link Arm Block Stmt) node_seen simple_found form_found call_found expr_seen link_found arm_found inside_found stmt_found
 
-abbrev block_of : Block-F Node Simple StmtForm Call Expr Link Arm Block Stmt → OfFound Block-F
+abbrev pub block_of : Block-F Node Simple StmtForm Call Expr Link Arm Block Stmt → OfFound Block-F
 block_of = at_found (map-Block Node Simple StmtForm Call Expr Link Arm Block Stmt) node_seen simple_found form_found call_found expr_seen link_found arm_found inside_found stmt_found
 
-abbrev stmt_of : Stmt-F Node Simple StmtForm Call Expr Link Arm Block Stmt → OfFound Stmt-F
+abbrev pub stmt_of : Stmt-F Node Simple StmtForm Call Expr Link Arm Block Stmt → OfFound Stmt-F
 stmt_of = at_found (map-Stmt Node Simple StmtForm Call Expr Link Arm Block Stmt) node_seen simple_found form_found call_found expr_seen link_found arm_found inside_found stmt_found
 
 -- what is found in a part is made by its layer, at a value that is made of this layer, and at the layer that a value has
@@ -139,7 +139,7 @@ literal_seen x =
 joined_nothing : (a : Found) → joined a nothing ≡ a
 joined_nothing a = λ i. record { mentions = append-nil a.mentions i; blocks = append-nil a.blocks i }
 
-joined_assoc : (a b c : Found) → joined (joined a b) c ≡ joined a (joined b c)
+pub joined_assoc : (a b c : Found) → joined (joined a b) c ≡ joined a (joined b c)
 joined_assoc a b c = λ i. record { mentions = append_assoc a.mentions b.mentions c.mentions i; blocks = append_assoc a.blocks b.blocks c.blocks i }
 
 all_of_push : (xs : List Found) (x : Found) → all_of (xs ++ x ∷ []) ≡ joined (all_of xs) x

@@ -40,7 +40,7 @@ uses_join [] cs (u ∷ us) vs h k = absurd h
 uses_join (b ∷ bs) cs [] vs h k = absurd h
 uses_join (b ∷ bs) cs (u ∷ us) vs h k = (h.0, uses_join bs cs us vs h.1 k)
 
-blocks_join : (a b : List Part) → blocks_of (a ++ b) ≡ blocks_of a ++ blocks_of b
+pub blocks_join : (a b : List Part) → blocks_of (a ++ b) ≡ blocks_of a ++ blocks_of b
 blocks_join [] b = refl
 blocks_join (called s ∷ a) b = blocks_join a b
 blocks_join (opened k ∷ a) b = ap (λ rest. k ∷ rest) (blocks_join a b)
@@ -213,13 +213,13 @@ pub text_found : (tree : Block) → AreUses (blocks tree) (uses_of tree)
 text_found tree = (record { own = []; whole = refl }, blocks_found tree in_text)
 
 -- the block that was found at the place of a block
-use_at : (bs : List Block) (us : List BlockUse) (n : ℕ) (b : Block) → AreUses bs us → slice_get bs n ≡ Some b → (u : BlockUse) × (slice_get us n ≡ Some u) × IsUse b u
+pub use_at : (bs : List Block) (us : List BlockUse) (n : ℕ) (b : Block) → AreUses bs us → slice_get bs n ≡ Some b → (u : BlockUse) × (slice_get us n ≡ Some u) × IsUse b u
 use_at [] us n b h e = absurd (none_some e)
 use_at (c ∷ bs) [] n b h e = absurd h
 use_at (c ∷ bs) (u ∷ us) zero b h e = (u, refl, subst (λ (x : Block). IsUse x u) (one_some e) h.0)
 use_at (c ∷ bs) (u ∷ us) (suc n) b h e = use_at bs us n b h.1 e
 
-row_at : (text k : ℕ) (us : List BlockUse) (n : ℕ) (u : BlockUse) → slice_get us n ≡ Some u → slice_get (rows_from text k us) n ≡ Some (row text (k + n) u)
+pub row_at : (text k : ℕ) (us : List BlockUse) (n : ℕ) (u : BlockUse) → slice_get us n ≡ Some u → slice_get (rows_from text k us) n ≡ Some (row text (k + n) u)
 row_at text k [] n u e = absurd (none_some e)
 row_at text k (v ∷ us) zero u e = let z : k ≡ k + 0 = omega arith in (λ i. Some (row text (z i) (one_some e i)))
 row_at text k (v ∷ us) (suc n) u e = row_at text (suc k) us n u e ∙ (let z : suc k + n ≡ k + suc n = omega arith in ap (λ m. Some (row text m u)) z)

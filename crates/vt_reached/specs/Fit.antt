@@ -1,6 +1,6 @@
 -- What the texts of a session can lead to: how threads start, and which events there are. Own.
 --
--- Of a thread that starts so, and whose reads and waits are answered by such events that match what they ask for, it is to be shown that it publishes nothing that a pattern can find outside the reach of its block. Of a thread that is told anything else that is not so: a live loop that is told a body of another loop runs it.
+-- A thread that starts so, and whose reads are answered by such events that match what they ask for, publishes nothing that a pattern can find outside the reach of its block (`Leading.antt`). Of a thread that is told anything else that is not so: a live loop that is told a body of another loop runs it.
 use Rattle.std.specs.Prelude.{◌≡◌, ℕ, suc, List, [], ◌∷◌, ◌++◌, Option, Some, None}
 use Rattle.std.specs.List.{Contains}
 use Rattle.vt_frac.specs.Fraction.{Fraction}
@@ -15,8 +15,6 @@ use Rattle.vt_reach.specs.declared.found.Row.{Row}
 use Rattle.vt_reach.specs.declared.mention.Key.TheVariants.{Function, Loop}
 use Rattle.vt_reach.specs.declared.mention.Mention.TheVariants.{Writes}
 use Rattle.vt_reach.specs.Reach.{IsBlock, MayWrite, rows_of}
-use Rattle.vt_run.specs.declared.action.Answer.{Answer}
-use Rattle.vt_run.specs.declared.action.Answer.TheVariants.{Nothing, Found}
 use Rattle.vt_run.specs.declared.role.Role.{Role}
 use Rattle.vt_run.specs.declared.role.Role.TheVariants.{Plain, Named, Looped, Timed}
 use Rattle.vt_run.specs.declared.start.Start.{Start}
@@ -68,11 +66,6 @@ FitsBody texts path (Some body) = (row : Row) × IsRow texts body.0 row × FitsP
 -- an event that the texts can lead to
 abbrev pub IsKnown : Texts → EventView → Type 0
 IsKnown texts event = FitsBody texts event.path event.body
-
--- an answer by such an event, or by none
-abbrev pub IsKnownAnswer : Texts → Answer → Type 0
-IsKnownAnswer texts Nothing = Unit {0}
-IsKnownAnswer texts (Found event) = IsKnown texts event
 
 -- what a thread that starts so, and all that it leads to, may publish
 abbrev pub MayPublish : Texts → Start → List Segment → Type 0

@@ -1,5 +1,5 @@
 pub mod Composition
 pub mod facts
-mod growth
+pub mod growth
 pub mod notes
 pub mod steps

@@ -2,6 +2,7 @@
 pub mod CallGrowth
 pub mod Closures
 pub mod Growth
+pub mod Rules
 pub mod ThreadGrowth
 pub mod TreeGrowth
 pub mod TreeInduction

@@ -5,5 +5,8 @@ pub mod TimeLemmas
 pub mod FormLemmas
 pub mod LawLemmas
 pub mod StandingLemmas
+pub mod Decided
+pub mod Judging
+pub mod JudgedLemmas
 pub mod SoundLemmas
 pub mod ReadLemmas

@@ -279,7 +279,7 @@ pub record Splits (bytes left : List ℕ) (found : List (List ℕ)) : Type 0 whe
 pub splits_none : (bytes : List ℕ) → Splits bytes bytes []
 splits_none bytes = record { more = λ words h. h; all = λ words h. (words, h); within = omega arith }
 
-tail_words : (word rest left : List ℕ) (words : List (List ℕ)) → IsNextWord word rest left → AreWords words left → (others : List (List ℕ)) × AreWords others rest
+pub tail_words : (word rest left : List ℕ) (words : List (List ℕ)) → IsNextWord word rest left → AreWords words left → (others : List (List ℕ)) × AreWords others rest
 tail_words word rest left [] n h = absurd (no_next word rest left n h)
 tail_words word rest left (other ∷ words) n h =
     let one = next_one word rest other h.rest left n (next_of_words other words left h) in

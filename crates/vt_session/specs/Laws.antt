@@ -8,6 +8,7 @@ use Rattle.vt_session.specs.Directives.{VersionLine, HasForm, is_percent}
 use Rattle.vt_session.specs.Lines.{lines_of}
 use Rattle.vt_session.specs.Rules.{FirstBadLine}
 use Rattle.vt_session.specs.Sessions.{SessionView, IsSession}
+use Rattle.vt_session.specs.Verdict.{IsJudged}
 
 -- Nothing is lost: the lines, one after another, are the bytes.
 abbrev pub NothingIsLost : Type 0
@@ -24,6 +25,10 @@ NotBoth = (lines : List (List ℕ)) (session : SessionView) (number : ℕ) → I
 -- No lines are refused for two lines.
 abbrev pub OneBadLine : Type 0
 OneBadLine = (lines : List (List ℕ)) (m n : ℕ) → FirstBadLine lines m → FirstBadLine lines n → m ≡ n
+
+-- Lines are a session, or one of them is the first that breaks a rule.
+abbrev pub AlwaysOne : Type 0
+AlwaysOne = (lines : List (List ℕ)) → IsJudged lines
 
 -- at the head of a session: nothing, or the line that makes it one of version 2
 abbrev pub IsHead : List (List ℕ) → Type 0

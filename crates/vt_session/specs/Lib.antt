@@ -5,5 +5,6 @@ pub mod Given
 pub mod Directives
 pub mod Rules
 pub mod Sessions
+pub mod Verdict
 pub mod Laws
 pub mod private

@@ -14,7 +14,10 @@ mod times;
 mod words;
 
 pub use fault::SessionFault;
-pub use laws::{not_both, nothing_is_lost, one_bad_line, one_session, text_one_is_first};
+pub use laws::{
+    always_one, not_both, nothing_is_lost, one_bad_line, one_session, text_one_is_first,
+    verdict_law,
+};
 pub use reader::read_session;
 pub use session::Session;
 pub use text_part::{TextPart, TextParts};

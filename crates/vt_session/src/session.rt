@@ -42,7 +42,8 @@ impl Session {
 
     /// Its texts.
     pub fn texts(&self) -> &TextParts
-        ensures { result.now ≡ self.now.texts }
+        ensures value { result.now ≡ self.now.texts }
+        ensures sound { IsSound self.now }
     {
         &self.texts
     }

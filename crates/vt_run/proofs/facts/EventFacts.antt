@@ -22,9 +22,10 @@ use Rattle.vt_run.specs.declared.role.Role.TheVariants.{Plain, Named, Looped, Ti
 use Rattle.vt_run.specs.Actions.{name_path}
 use Rattle.vt_run.specs.Limits.{ArePairsWithin, IsEventWithin, IsPathWithin, IsRoleWithin}
 use Rattle.vt_run.specs.WellMade.{IsWellMade}
-use Rattle.vt_run.proofs.facts.Known.{IsTold}
+use Rattle.vt_run.proofs.facts.Known.{IsTold, Quiet}
 use Rattle.vt_run.proofs.facts.NameFacts.{live_loop_segment, named_path, word_outside}
 use Rattle.vt_ring.proofs.limits.Values.{within_nil, within_ring, within_whole}
+use Rattle.vt_event.specs.Event.{EventView}
 
 some_same : {X : Type 0} {x y : X} → Some x ≡ Some y → x ≡ y
 some_same e = cc
@@ -32,8 +33,8 @@ some_same e = cc
 no_some : {X : Type 0} {x : X} → None ≡ Some x → ⊥
 no_some e = cc
 
-pub fault_told : (L : Type 0) (kind : FaultKind) (line : ℕ) (place : Place) → (L → IsFraction place.time) → IsTold L place (fault_event place kind line)
-fault_told L kind line place time = record {
+pub fault_told : (L : Type 0) (T : EventView → Type 0) (kind : FaultKind) (line : ℕ) (place : Place) → (L → IsFraction place.time) → Quiet L T → IsTold L T place (fault_event place kind line)
+fault_told L T kind line place time quiet = record {
   placed = refl;
   made = record {
     fields = fault_fields place kind line;
@@ -41,10 +42,11 @@ fault_told L kind line place time = record {
     unstopped = λ k name e. no_some e;
   };
   within = λ l. record { time = time l; path = tt; name = λ n. absurd (true≢false (sym n)); value = within_nil; options = tt; body = tt };
+  told = λ l. quiet l _ refl;
 }
 
-pub ended_told : (L : Type 0) (path : List (List ℕ)) (place : Place) → ((name : List ℕ) → path ≢ inner_of StopPath name) → (L → IsInner path) → (L → IsFraction place.time) → IsTold L place (ended_event place path)
-ended_told L path place clear inner time = record {
+pub ended_told : (L : Type 0) (T : EventView → Type 0) (path : List (List ℕ)) (place : Place) → ((name : List ℕ) → path ≢ inner_of StopPath name) → (L → IsInner path) → (L → IsFraction place.time) → (L → T (ended_event place path)) → IsTold L T place (ended_event place path)
+ended_told L T path place clear inner time told = record {
   placed = refl;
   made = record {
     fields = ended_fields place path;
@@ -52,10 +54,11 @@ ended_told L path place clear inner time = record {
     unstopped = λ k name e. clear name (some_same e);
   };
   within = λ l. record { time = time l; path = inr (inner l); name = λ n. absurd (true≢false (sym n)); value = within_nil; options = tt; body = tt };
+  told = told;
 }
 
-pub started_told : (L : Type 0) (path : List (List ℕ)) (place : Place) → ((name : List ℕ) → path ≢ inner_of StopPath name) → (L → IsInner path) → (L → IsFraction place.time) → IsTold L place (started_event place path)
-started_told L path place clear inner time = record {
+pub started_told : (L : Type 0) (T : EventView → Type 0) (path : List (List ℕ)) (place : Place) → ((name : List ℕ) → path ≢ inner_of StopPath name) → (L → IsInner path) → (L → IsFraction place.time) → (L → T (started_event place path)) → IsTold L T place (started_event place path)
+started_told L T path place clear inner time told = record {
   placed = refl;
   made = record {
     fields = started_fields place path;
@@ -63,11 +66,12 @@ started_told L path place clear inner time = record {
     unstopped = λ k name e. clear name (some_same e);
   };
   within = λ l. record { time = time l; path = inr (inner l); name = λ n. absurd (true≢false (sym n)); value = within_nil; options = tt; body = tt };
+  told = told;
 }
 
-pub body_told : (L : Type 0) (path : List (List ℕ)) (block : BlockRef) (locals : Pairs) (line : ℕ) (place : Place) →
-    ((name : List ℕ) → path ≢ inner_of StopPath name) → (L → IsInner path) → (L → ArePairsWithin locals) → (L → IsFraction place.time) → IsTold L place (body_event place path block locals line)
-body_told L path block locals line place clear inner pairs time = record {
+pub body_told : (L : Type 0) (T : EventView → Type 0) (path : List (List ℕ)) (block : BlockRef) (locals : Pairs) (line : ℕ) (place : Place) →
+    ((name : List ℕ) → path ≢ inner_of StopPath name) → (L → IsInner path) → (L → ArePairsWithin locals) → (L → IsFraction place.time) → (L → T (body_event place path block locals line)) → IsTold L T place (body_event place path block locals line)
+body_told L T path block locals line place clear inner pairs time told = record {
   placed = refl;
   made = record {
     fields = body_fields place path block locals line;
@@ -75,11 +79,12 @@ body_told L path block locals line place clear inner pairs time = record {
     unstopped = λ k name e. clear name (some_same e);
   };
   within = λ l. record { time = time l; path = inr (inner l); name = λ n. absurd (true≢false (sym n)); value = within_nil; options = tt; body = pairs l };
+  told = told;
 }
 
-pub defined_told : (L : Type 0) (path : List (List ℕ)) (block : BlockRef) (locals : Pairs) (place : Place) →
-    ((name : List ℕ) → path ≢ inner_of StopPath name) → (L → IsInner path) → (L → ArePairsWithin locals) → (L → IsFraction place.time) → IsTold L place (defined_event place path block locals)
-defined_told L path block locals place clear inner pairs time = record {
+pub defined_told : (L : Type 0) (T : EventView → Type 0) (path : List (List ℕ)) (block : BlockRef) (locals : Pairs) (place : Place) →
+    ((name : List ℕ) → path ≢ inner_of StopPath name) → (L → IsInner path) → (L → ArePairsWithin locals) → (L → IsFraction place.time) → (L → T (defined_event place path block locals)) → IsTold L T place (defined_event place path block locals)
+defined_told L T path block locals place clear inner pairs time told = record {
   placed = refl;
   made = record {
     fields = defined_fields place path block locals;
@@ -87,11 +92,12 @@ defined_told L path block locals place clear inner pairs time = record {
     unstopped = λ k name e. clear name (some_same e);
   };
   within = λ l. record { time = time l; path = inr (inner l); name = λ n. absurd (true≢false (sym n)); value = within_nil; options = tt; body = pairs l };
+  told = told;
 }
 
-pub took_told : (L : Type 0) (path : List (List ℕ)) (value : Value) (place : Place) →
-    (L → IsPathWithin path) → (L → IsWithin value) → (L → IsFraction place.time) → IsTold L place (took_event place path value)
-took_told L path value place good held time = record {
+pub took_told : (L : Type 0) (T : EventView → Type 0) (path : List (List ℕ)) (value : Value) (place : Place) →
+    (L → IsPathWithin path) → (L → IsWithin value) → (L → IsFraction place.time) → (L → T (took_event place path value)) → IsTold L T place (took_event place path value)
+took_told L T path value place good held time told = record {
   placed = refl;
   made = record {
     fields = took_fields place path value;
@@ -99,11 +105,12 @@ took_told L path value place good held time = record {
     unstopped = λ k. absurd (k refl);
   };
   within = λ l. record { time = time l; path = good l; name = λ n. absurd (true≢false (sym n)); value = held l; options = tt; body = tt };
+  told = told;
 }
 
-pub cue_told : (L : Type 0) (path : List (List ℕ)) (value : Value) (place : Place) →
-    (L → IsPathWithin path) → (L → IsWithin value) → (L → IsFraction place.time) → ((kind : InnerKind) (name : List ℕ) → path ≢ inner_of kind name) → IsTold L place (cue_event place path value)
-cue_told L path value place good held time other = record {
+pub cue_told : (L : Type 0) (T : EventView → Type 0) (path : List (List ℕ)) (value : Value) (place : Place) →
+    (L → IsPathWithin path) → (L → IsWithin value) → (L → IsFraction place.time) → ((kind : InnerKind) (name : List ℕ) → path ≢ inner_of kind name) → (L → T (cue_event place path value)) → IsTold L T place (cue_event place path value)
+cue_told L T path value place good held time other told = record {
   placed = refl;
   made = record {
     fields = cue_fields place path value;
@@ -111,17 +118,18 @@ cue_told L path value place good held time other = record {
     unstopped = λ k name e. other StopPath name (some_same e);
   };
   within = λ l. record { time = time l; path = good l; name = λ n. absurd (true≢false (sym n)); value = held l; options = tt; body = tt };
+  told = told;
 }
 
 -- a live loop tells of each of its turns
-pub turn_told : (L : Type 0) (name : List ℕ) (place : Place) → (L → IsTrue (is_symbol_name name)) → (L → IsFraction place.time) → IsTold L place (cue_event place (codes "live_loop" ∷ name ∷ []) (Ring []))
-turn_told L name place symbol time =
-    cue_told L (codes "live_loop" ∷ name ∷ []) (Ring []) place (λ l. inl (named_path (codes "live_loop") name live_loop_segment (symbol l))) (λ l. within_ring [] refl tt) time
-    (word_outside (codes "live_loop") name live_loop_segment)
+pub turn_told : (L : Type 0) (T : EventView → Type 0) (name : List ℕ) (place : Place) → (L → IsTrue (is_symbol_name name)) → (L → IsFraction place.time) → (L → T (cue_event place (codes "live_loop" ∷ name ∷ []) (Ring []))) → IsTold L T place (cue_event place (codes "live_loop" ∷ name ∷ []) (Ring []))
+turn_told L T name place symbol time told =
+    cue_told L T (codes "live_loop" ∷ name ∷ []) (Ring []) place (λ l. inl (named_path (codes "live_loop") name live_loop_segment (symbol l))) (λ l. within_ring [] refl tt) time
+    (word_outside (codes "live_loop") name live_loop_segment) told
 
-pub set_told : (L : Type 0) (path : List (List ℕ)) (value : Value) (place : Place) →
-    (L → IsPathWithin path) → (L → IsWithin value) → (L → IsFraction place.time) → ((kind : InnerKind) (name : List ℕ) → path ≢ inner_of kind name) → IsTold L place (set_event place path value)
-set_told L path value place good held time other = record {
+pub set_told : (L : Type 0) (T : EventView → Type 0) (path : List (List ℕ)) (value : Value) (place : Place) →
+    (L → IsPathWithin path) → (L → IsWithin value) → (L → IsFraction place.time) → ((kind : InnerKind) (name : List ℕ) → path ≢ inner_of kind name) → (L → T (set_event place path value)) → IsTold L T place (set_event place path value)
+set_told L T path value place good held time other told = record {
   placed = refl;
   made = record {
     fields = set_fields place path value;
@@ -129,10 +137,11 @@ set_told L path value place good held time other = record {
     unstopped = λ k name e. other StopPath name (some_same e);
   };
   within = λ l. record { time = time l; path = good l; name = λ n. absurd (true≢false (sym n)); value = held l; options = tt; body = tt };
+  told = told;
 }
 
-pub log_told : (L : Type 0) (value : Value) (place : Place) → (L → IsWithin value) → (L → IsFraction place.time) → IsTold L place (log_event place value)
-log_told L value place held time = record {
+pub log_told : (L : Type 0) (T : EventView → Type 0) (value : Value) (place : Place) → (L → IsWithin value) → (L → IsFraction place.time) → Quiet L T → IsTold L T place (log_event place value)
+log_told L T value place held time quiet = record {
   placed = refl;
   made = record {
     fields = log_fields place value;
@@ -140,12 +149,13 @@ log_told L value place held time = record {
     unstopped = λ k name e. no_some e;
   };
   within = λ l. record { time = time l; path = tt; name = λ n. absurd (true≢false (sym n)); value = held l; options = tt; body = tt };
+  told = λ l. quiet l _ refl;
 }
 
-pub play_told : (L : Type 0) (synth : List ℕ) (note : Value) (options : Pairs) (fx : Option FxId) (place : Place) →
+pub play_told : (L : Type 0) (T : EventView → Type 0) (synth : List ℕ) (note : Value) (options : Pairs) (fx : Option FxId) (place : Place) →
     IsTrue (is_note note) → (L → IsTrue (is_symbol_name synth)) → (L → IsWithin note) → (L → ArePairsWithin options) → (L → IsFraction place.time) →
-    IsTold L place (play_event place synth note options fx)
-play_told L synth note options fx place number symbol held pairs time = record {
+    Quiet L T → IsTold L T place (play_event place synth note options fx)
+play_told L T synth note options fx place number symbol held pairs time quiet = record {
   placed = refl;
   made = record {
     fields = play_fields place synth note options fx number;
@@ -153,11 +163,12 @@ play_told L synth note options fx place number symbol held pairs time = record {
     unstopped = λ k name e. no_some e;
   };
   within = λ l. record { time = time l; path = tt; name = λ n. symbol l; value = held l; options = pairs l; body = tt };
+  told = λ l. quiet l _ refl;
 }
 
-pub synth_told : (L : Type 0) (name : List ℕ) (options : Pairs) (fx : Option FxId) (place : Place) →
-    (L → IsTrue (is_symbol_name name)) → (L → ArePairsWithin options) → (L → IsFraction place.time) → IsTold L place (synth_event place name options fx)
-synth_told L name options fx place symbol pairs time = record {
+pub synth_told : (L : Type 0) (T : EventView → Type 0) (name : List ℕ) (options : Pairs) (fx : Option FxId) (place : Place) →
+    (L → IsTrue (is_symbol_name name)) → (L → ArePairsWithin options) → (L → IsFraction place.time) → Quiet L T → IsTold L T place (synth_event place name options fx)
+synth_told L T name options fx place symbol pairs time quiet = record {
   placed = refl;
   made = record {
     fields = synth_fields place name options fx;
@@ -165,11 +176,12 @@ synth_told L name options fx place symbol pairs time = record {
     unstopped = λ k name e. no_some e;
   };
   within = λ l. record { time = time l; path = tt; name = λ n. symbol l; value = within_nil; options = pairs l; body = tt };
+  told = λ l. quiet l _ refl;
 }
 
-pub sample_told : (L : Type 0) (sample : Value) (options : Pairs) (fx : Option FxId) (place : Place) →
-    IsTrue (is_sample_name sample) → (L → IsWithin sample) → (L → ArePairsWithin options) → (L → IsFraction place.time) → IsTold L place (sample_event place sample options fx)
-sample_told L sample options fx place named held pairs time = record {
+pub sample_told : (L : Type 0) (T : EventView → Type 0) (sample : Value) (options : Pairs) (fx : Option FxId) (place : Place) →
+    IsTrue (is_sample_name sample) → (L → IsWithin sample) → (L → ArePairsWithin options) → (L → IsFraction place.time) → Quiet L T → IsTold L T place (sample_event place sample options fx)
+sample_told L T sample options fx place named held pairs time quiet = record {
   placed = refl;
   made = record {
     fields = sample_fields place sample options fx named;
@@ -177,6 +189,7 @@ sample_told L sample options fx place named held pairs time = record {
     unstopped = λ k name e. no_some e;
   };
   within = λ l. record { time = time l; path = tt; name = λ n. absurd (true≢false (sym n)); value = held l; options = pairs l; body = tt };
+  told = λ l. quiet l _ refl;
 }
 
 -- an effect, whose number is one of 32 bits

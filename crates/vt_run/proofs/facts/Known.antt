@@ -1,5 +1,5 @@
 -- What is known along an evaluation: of where the thread stands, of the values that it holds, of the events that it publishes.
-use Rattle.std.proofs.Common.{◌≡◌, ℕ, ◌<◌, List, Bool, refl}
+use Rattle.std.proofs.Common.{◌≡◌, ℕ, ◌<◌, List, Bool, refl, None, Ok, ◌∷◌}
 use Rattle.std.specs.Prelude.{ℤ, ◌^◌, unsigned_abs, IsTrue}
 use Rattle.std.specs.List.{AllByRecursion}
 use Rattle.vt_frac.specs.Fraction.{Fraction, IsFraction}
@@ -11,12 +11,13 @@ use Rattle.vt_event.specs.Pairs.{Pairs}
 use Rattle.vt_run.specs.declared.settings.Settings.{Settings}
 use Rattle.vt_run.specs.declared.start.Start.{Start}
 use Rattle.vt_run.specs.declared.state.State.{State}
-use Rattle.vt_run.specs.calls.Arguments.{Given, all_args}
+use Rattle.vt_run.specs.calls.Arguments.{Given, all_args, path_argument}
 use Rattle.vt_run.specs.calls.Deeds.{Deed}
 use Rattle.vt_run.specs.Limits.{ArePairsWithin, AreSettingsWithin, IsEventWithin}
 use Rattle.vt_run.specs.calls.TickCalls.{Counters}
 use Rattle.vt_run.specs.WellMade.{IsWellMade}
 use Rattle.vt_value.specs.Limits.{AreWithin, IsWithin}
+use Rattle.vt_value.specs.declared.value.Value.{Value}
 
 -- two states in which a thread stands alike: at one place, with as many effects, children and used answers
 pub record IsLike (st other : State) : Type 0 where
@@ -56,15 +57,25 @@ pub record IsGivenWithin (given : Given) : Type 0 where
 abbrev pub place_in : Start → State → Place
 place_in start st = record { time = st.time; micro = st.micro; thread = start.place.thread; step = st.step }
 
--- An event that is published at a place. What is known under L is within the limits of the language.
-pub record IsTold (L : Type 0) (place : Place) (event : EventView) : Type 0 where
+-- what is allowed of each event without a path
+abbrev pub Quiet : Type 0 → (EventView → Type 0) → Type 0
+Quiet L T = L → (event : EventView) → event.path ≡ None → T event
+
+-- An event that is published at a place. What is known under L is within the limits of the language, and allowed by T.
+pub record IsTold (L : Type 0) (T : EventView → Type 0) (place : Place) (event : EventView) : Type 0 where
   pub placed : event.place ≡ place
   pub made : IsWellMade event
   pub within : L → IsEventWithin event
+  pub told : L → T event
+
+-- what `cue` or `set` tells at the path that its first argument stands for
+abbrev pub SentBy : Type 0 → (EventView → Type 0) → List ℕ → (Place → List (List ℕ) → Value → EventView) → List Value → Type 0
+SentBy L T word event args =
+    L → (to : Value) (rest : List Value) (path : List (List ℕ)) → args ≡ to ∷ rest → path_argument word to ≡ Ok (Ok path) → (place : Place) (value : Value) → T (event place path value)
 
 -- a call that comes to a deed
-pub record IsDeed (L : Type 0) (st : State) (deed : Deed) : Type 0 where
+pub record IsDeed (L : Type 0) (T : EventView → Type 0) (st : State) (deed : Deed) : Type 0 where
   pub alike : IsLike st deed.state
   pub value : L → IsWithin deed.value
   pub state : L → IsStateWithin deed.state
-  pub events : AllByRecursion (λ event. (place : Place) → (L → IsFraction place.time) → IsTold L place (event place)) deed.events
+  pub events : AllByRecursion (λ event. (place : Place) → (L → IsFraction place.time) → IsTold L T place (event place)) deed.events

@@ -27,7 +27,7 @@ use Rattle.vt_run.specs.calls.PlayCalls.{is_rest, note_to_play, notes_asked, not
 use Rattle.vt_run.specs.Limits.{ArePairsWithin, AreSettingsWithin}
 use Rattle.vt_run.proofs.facts.ArgumentFacts.{each_of_within}
 use Rattle.vt_run.proofs.facts.EventFacts.{play_told}
-use Rattle.vt_run.proofs.facts.Known.{IsTold}
+use Rattle.vt_run.proofs.facts.Known.{IsTold, Quiet}
 use Rattle.vt_run.proofs.facts.PairFacts.{defaults_within}
 
 -- a note, which under L is within the limits
@@ -118,10 +118,10 @@ module _ (L : Type 0) where
   played_each (Some note ∷ notes) h = (h.0, played_each notes h.1)
 
   -- the events of these notes
-  pub played_told : (options : Pairs) (settings : Settings) (notes : List (Option Value)) → (L → ArePairsWithin options) → (L → AreSettingsWithin settings) → ArePlayed L notes →
-      AllByRecursion (λ event. (place : Place) → (L → IsFraction place.time) → IsTold L place (event place)) (plays_notes options settings notes)
-  played_told options settings notes o s h =
-      each_map (IsPlayed L) (λ (event : Place → EventView). (place : Place) → (L → IsFraction place.time) → IsTold L place (event place)) (plays_note options settings)
-      (λ note p place time. play_told L settings.synth note (with_defaults options settings.defaults) settings.fx place p.number (λ l. (s l).synth) p.within
-      (λ l. defaults_within options settings.defaults (o l) (s l).defaults) time)
+  pub played_told : (T : EventView → Type 0) → Quiet L T → (options : Pairs) (settings : Settings) (notes : List (Option Value)) → (L → ArePairsWithin options) → (L → AreSettingsWithin settings) → ArePlayed L notes →
+      AllByRecursion (λ event. (place : Place) → (L → IsFraction place.time) → IsTold L T place (event place)) (plays_notes options settings notes)
+  played_told T quiet options settings notes o s h =
+      each_map (IsPlayed L) (λ (event : Place → EventView). (place : Place) → (L → IsFraction place.time) → IsTold L T place (event place)) (plays_note options settings)
+      (λ note p place time. play_told L T settings.synth note (with_defaults options settings.defaults) settings.fx place p.number (λ l. (s l).synth) p.within
+      (λ l. defaults_within options settings.defaults (o l) (s l).defaults) time quiet)
       (filter_map (λ note. note) notes) (played_each notes h)

@@ -25,9 +25,10 @@ use Rattle.vt_run.specs.calls.PatternCalls.{Item, beats_round, even_items, timed
 use Rattle.vt_run.specs.calls.PlayCalls.{notes_asked, plays_notes}
 use Rattle.vt_run.specs.Limits.{ArePairsWithin, AreSettingsWithin}
 use Rattle.vt_run.proofs.facts.ArgumentFacts.{IsNotNegative, each_of_within, items_round_within, none_negative, under}
-use Rattle.vt_run.proofs.facts.Known.{IsGivenWithin, IsTold}
+use Rattle.vt_run.proofs.facts.Known.{IsGivenWithin, IsTold, Quiet}
 use Rattle.vt_run.proofs.facts.NoteFacts.{AreAsked, ArePlayed, asked_give, each_under, notes_asked_give, played_told}
 use Rattle.vt_run.proofs.facts.PairFacts.{each_zip}
+use Rattle.vt_event.specs.Event.{EventView}
 
 -- each value is a note, or silence
 abbrev pub AreNotes : List (Option Value) → Type 0
@@ -135,7 +136,7 @@ pub timed_items_notes : (given : Given) (items : List Item) → timed_items give
 timed_items_notes given items e = have_notes ⊥ items (IfOk-at_ok (AllByRecursion (IsMade ⊥)) e (timed_items_give ⊥ given (λ l. absurd l)))
 
 -- the events of notes
-pub notes_told : (L : Type 0) (options : Pairs) (settings : Settings) (notes : List (Option Value)) →
+pub notes_told : (L : Type 0) (T : EventView → Type 0) → Quiet L T → (options : Pairs) (settings : Settings) (notes : List (Option Value)) →
     (L → ArePairsWithin options) → (L → AreSettingsWithin settings) → AreNotes notes → (L → AreNotesWithin notes) →
-    AllByRecursion (λ event. (place : Place) → (L → IsFraction place.time) → IsTold L place (event place)) (plays_notes options settings notes)
-notes_told L options settings notes o s n w = played_told L options settings notes o s (played_of L notes n w)
+    AllByRecursion (λ event. (place : Place) → (L → IsFraction place.time) → IsTold L T place (event place)) (plays_notes options settings notes)
+notes_told L T quiet options settings notes o s n w = played_told L T quiet options settings notes o s (played_of L notes n w)

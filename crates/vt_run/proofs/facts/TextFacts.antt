@@ -24,5 +24,5 @@ text_start_law number time options fraction until seed =
 pub refusal_law : RefusalLaw
 refusal_law number time kind line options fraction =
     let event = refused_event number time kind line in
-    let told = fault_told (IsFraction time) kind line event.place (λ known. known) in
+    let told = fault_told (IsFraction time) (λ event. Unit {0}) kind line event.place (λ known. known) (λ known event none. tt) in
     record { made = told.made; within = told.within fraction; first = before-place event.place (text_start number time options).place (inr (refl, inr (refl, inr (refl, lit< tt)))) }

@@ -1,5 +1,5 @@
 -- What is kept by the parts of a run is kept by each call.
-use Rattle.std.proofs.Common.{◌≡◌, ◌≤◌, ◌<◌, inl, inr, ℕ, zero, suc, ◌-◌, List, [], ◌∷◌, ◌++◌, length, ◌+◌, take, cond, Option, Some, None, refl, arith}
+use Rattle.std.proofs.Common.{◌≡◌, ◌≤◌, ◌<◌, inl, inr, ℕ, zero, suc, ◌-◌, List, [], ◌∷◌, ◌++◌, length, ◌+◌, take, cond, Option, Some, None, refl, subst, arith}
 use Rattle.std.specs.Prelude.{◌≢◌, ℤ, pos, codes, is_some, nat_lt, ok_or, IsTrue}
 use Rattle.std.specs.List.{AllByRecursion}
 use Rattle.vt_path.specs.declared.pattern.Segment.{Segment}
@@ -53,7 +53,9 @@ use Rattle.vt_run.specs.calls.TickCalls.{Counters, look_call, tick_call, tick_re
 use Rattle.vt_run.specs.calls.TimeCalls.{beats_of, current_bpm_call, rest_of, rt_call, sleep_call, vt_call}
 use Rattle.vt_run.specs.calls.LoopCalls.{density_call, density_of, each_call, loop_call, loops, map_call, numbers_below, times_call, turn_begun, turns_over, unless_idle}
 use Rattle.vt_run.proofs.facts.ArgumentFacts.{beats_fit, beats_rest, inner_pattern, loop_fact, pattern_fact, rest_fact, rest_fits, role_fact, symbol_fact, tempo_fact}
-use Rattle.vt_run.proofs.growth.Closures.{BodyGrows, neither, both, SpotGrows, Two, answered_state, low, high, MeaningGrows, charges_keep, cond_keeps, done_keeps, emit_keeps, emits_all_keep, ends_keep, enters_keep, fails_keep, gives_like, if_keeps, or_fails_keeps, tick_keeps}
+use Rattle.vt_run.proofs.growth.Rules.{MayCall, MayRun, MayStart, ref_of}
+use Rattle.vt_event.specs.declared.place.Place.{Place}
+use Rattle.vt_run.proofs.growth.Closures.{follows, BodyGrows, neither, both, SpotGrows, Two, answered_state, low, high, MeaningGrows, charges_keep, cond_keeps, done_keeps, emit_keeps, emits_all_keep, ends_keep, enters_keep, fails_keep, gives_like, if_keeps, or_fails_keeps, tick_keeps}
 use Rattle.vt_run.proofs.facts.DeedFacts.{computed_deed, cue_deed, current_bpm_deed, look_deed, play_deed, puts_deed, rt_deed, sample_deed, set_deed, synth_deed, tick_deed, tick_reset_deed, tick_set_deed, use_bpm_deed, use_debug_deed, use_random_seed_deed, use_synth_deed, use_synth_defaults_deed, vt_deed}
 use Rattle.vt_run.proofs.facts.EventFacts.{body_told, body_unstopped, def_unstopped, defined_told, inner_path, name_path_inner, name_path_unstopped, started_told, took_told}
 use Rattle.vt_run.proofs.facts.Known.{IsGivenWithin, IsLike, IsStateWithin, PartsWithin, like, place_in}
@@ -93,6 +95,11 @@ pub record BlockFits (two : Two) (block : BlockMeaning) : Type 0 where
   pub found : two.e.L → IsTrue (is_some (block_of two.e.texts (record { text = two.text; block = block.number })))
   pub grows : MeaningGrows two block.run
 
+-- the number of a block, where there is one
+abbrev pub numbered : Option BlockMeaning → Option ℕ
+numbered None = None
+numbered (Some block) = Some block.number
+
 -- so of a block, where there is one
 abbrev pub BlockGrows : Two → Option BlockMeaning → Type 0
 BlockGrows two None = Unit {0}
@@ -111,14 +118,14 @@ module _ (two : Two) where
       let inside = with_locals (st.locals ++ params_with block.params values) st in
       let go = λ (env : Env) (deep : Spot). after (block.run env deep inside) leave in
       enters_keep two at st (go (low two)) (go (high two)) s (λ deep.
-      two.has.followed _ _ leave leave
+      follows two _ _ leave leave
       (two.has.alike {other = inside} (like _ _ _ _ _) (h.grows deep inside (λ l. with_pairs _ (s l) (pairs_append st.locals _ (s l).pairs (params_within block.params values (h.names l) (v l))))))
       (λ l w t. gives_like two l.value _ (like _ _ _ _ _) w (λ x. with_pairs _ (t x) (pairs_take (length st.locals) l.state.locals (t x).pairs))))
 
   set_back_keeps : (back : State → State) → ((end : State) → IsLike end (back end)) → (two.e.L → (end : State) → IsStateWithin end → IsStateWithin (back end)) → {st : State} (a b : Ran) → two.R two.n st a b → two.R two.n st (set_back back a) (set_back back b)
   set_back_keeps back is t a b h =
       let leave = λ (value : Value) (end : State). gives Nil (back end) in
-      two.has.followed a b leave leave h (λ l w s. gives_like two Nil (back l.state) (is l.state) (λ x. within_nil) (λ x. t x l.state (s x)))
+      follows two a b leave leave h (λ l w s. gives_like two Nil (back l.state) (is l.state) (λ x. within_nil) (λ x. t x l.state (s x)))
 
   with_synth_grows : (given : Given) (block : Option BlockMeaning) → Fits given → BlockGrows two block → MeaningGrows two (with_synth_call given block)
   unfolding with_synth_call
@@ -164,7 +171,7 @@ module _ (two : Two) where
   loops_keep j (suc u) zero p q r block h at st s = absurd (omega arith)
   loops_keep j (suc u) (suc u') p q r block h at st s =
       let next = λ (env : Env) (u : ℕ) (value : Value) (end : State). unless_idle env at end (loops u block env at) in
-      two.has.less (omega arith) (two.has.spent {n = j - 1} 1 (omega arith) (two.has.followed _ _ (next (low two) u) (next (high two) u')
+      two.has.less (omega arith) (two.has.spent {n = j - 1} 1 (omega arith) (follows two _ _ (next (low two) u) (next (high two) u')
       (two.has.less (omega arith) (two.has.alike {other = turn_begun st} (like _ _ _ _ _) (runs_keep block h [] (λ x. tt) at (turn_begun st) s)))
       (λ l w t. cond_keeps two l.state.moved (loops_keep (j - 1) u u' (omega arith) (omega arith) (omega arith) block h at l.state t) (fails_keep two NoSleep at l.state t))))
 
@@ -178,7 +185,7 @@ module _ (two : Two) where
   turns_over_keep [] block h v at st s go go' k = k [] (λ x. tt) st s
   turns_over_keep (item ∷ items) block h v at st s go go' k =
       let next = λ (env : Env) (go : List Value → State → Ran) (value : Value) (st : State). turns_over items block env at st (λ values st. go (value ∷ values) st) in
-      tick_keeps two (two.has.followed _ _ (next (low two) go) (next (high two) go') (runs_keep block h (item ∷ []) (λ x. ((v x).0, tt)) at st s) (λ l w t.
+      tick_keeps two (follows two _ _ (next (low two) go) (next (high two) go') (runs_keep block h (item ∷ []) (λ x. ((v x).0, tt)) at st s) (λ l w t.
       turns_over_keep items block h (λ x. (v x).1) at l.state t (λ values st. go (l.value ∷ values) st) (λ values st. go' (l.value ∷ values) st) (λ values vs st s. k (l.value ∷ values) (λ x. (w x, vs x)) st s)))
 
   times_grows : (given : Given) (block : Option BlockMeaning) → Fits given → BlockGrows two block → MeaningGrows two (times_call given block)
@@ -211,7 +218,7 @@ module _ (two : Two) where
 
   -- a read, at what its answer leads to
   pub reads_keep : {n : ℕ} (pattern : List Segment) (st : State) (go go' : Answer → State → Ran) → (two.e.L → IsPatternWithin pattern) → Stays st →
-      ((answer : Answer) → (two.e.L → IsAnswerWithin answer) → two.R n (answered_state st) (go answer (answered_state st)) (go' answer (answered_state st))) →
+      ((answer : Answer) → (two.e.L → IsAnswerWithin answer) → (two.e.L → two.e.rules.Hears pattern answer) → two.R n (answered_state st) (go answer (answered_state st)) (go' answer (answered_state st))) →
       two.R (suc n) st (reads pattern (low two) st go) (reads pattern (high two) st go')
   reads_keep pattern st go go' p s h = two.has.asked _ two.text two.turns two.turns' two.body two.body' pattern st go go' p s h
 
@@ -221,7 +228,7 @@ module _ (two : Two) where
       let last = λ (answer : Answer) (st : State). gives (value_found answer) st in
       let go = λ (env : Env) (pattern : List Segment). reads pattern env st last in
       or_fails_keeps two (a_pattern (all_args given)) at st (go (low two)) (go (high two)) s (λ pattern is.
-      two.has.less (omega arith) (reads_keep pattern st last last (λ x. inl (pattern_fact (all_args given) pattern is (g x).args)) s (λ answer a.
+      two.has.less (omega arith) (reads_keep pattern st last last (λ x. inl (pattern_fact (all_args given) pattern is (g x).args)) s (λ answer a heard.
       two.has.given two.n (value_found answer) (answered_state st) (λ x. value_found_within answer (a x)) s)))
 
   -- what is taken; a stop of the thread ends it
@@ -229,7 +236,7 @@ module _ (two : Two) where
       two.R n st (takes path event (low two) st) (takes path event (high two) st)
   takes_keep path event st p v s =
       cond_keeps two (is_own_stop two.e.start.role path) (ends_keep two Stopped st s)
-      (emit_keeps two (took_event (place_in two.e.start st) path event.value) (took_told two.e.L path event.value (place_in two.e.start st) p (λ x. (v x).value) (λ x. (s x).fraction)) s
+      (emit_keeps two (took_event (place_in two.e.start st) path event.value) (took_told two.e.L two.e.rules.Tells path event.value (place_in two.e.start st) p (λ x. (v x).value) (λ x. (s x).fraction) (λ x. two.e.taken x (place_in two.e.start st) path event.value)) s
       (two.has.given _ event.value (acted st) (λ x. (v x).value) s))
 
   -- a wait, and what it takes
@@ -257,66 +264,66 @@ module _ (two : Two) where
   nested_keeps at st go go' s h = if_keeps two (nat_lt (length two.e.start.place.thread) 32) (λ e. h (ltb-true _ _ e)) (fails_keep two TooNested at st s)
 
   -- a child is started, and then what comes next
-  spawn_keeps : (role : Role) (handed : ℕ) (block : BlockMeaning) → BlockFits two block → (two.e.L → IsRoleWithin role) → (st : State) (go go' : State → Ran) → Stays st → two.R two.n (has_spawned st) (go (has_spawned st)) (go' (has_spawned st)) → length two.e.start.place.thread < 32 →
+  spawn_keeps : (role : Role) (handed : ℕ) (block : BlockMeaning) → BlockFits two block → (two.e.L → two.e.rules.Starts role (ref_of two.text block.number)) → (two.e.L → IsRoleWithin role) → (st : State) (go go' : State → Ran) → Stays st → two.R two.n (has_spawned st) (go (has_spawned st)) (go' (has_spawned st)) → length two.e.start.place.thread < 32 →
       two.R two.n st (spawns role handed block (low two) st go) (spawns role handed block (high two) st go')
-  spawn_keeps role handed block h r st go go' s k less = two.has.less (omega arith) (two.has.spawned two.n two.text two.turns two.turns' two.body two.body' role handed block st go go' less r h.found s k)
+  spawn_keeps role handed block h may r st go go' s k less = two.has.less (omega arith) (two.has.spawned two.n two.text two.turns two.turns' two.body two.body' role handed block st go go' less r h.found may s k)
 
-  starts_at_keeps : (path : Option (List (List ℕ))) (role : Role) (handed : ℕ) (block : BlockMeaning) → BlockFits two block → ((p : List (List ℕ)) → path ≡ Some p → (name : List ℕ) → p ≢ inner_of StopPath name) → ((p : List (List ℕ)) → path ≡ Some p → two.e.L → IsInner p) → (two.e.L → IsRoleWithin role) → (at : Spot) (st : State) → Stays st →
+  starts_at_keeps : (path : Option (List (List ℕ))) (role : Role) (handed : ℕ) (block : BlockMeaning) → BlockFits two block → (two.e.L → two.e.rules.Starts role (ref_of two.text block.number)) → ((p : List (List ℕ)) → path ≡ Some p → two.e.L → (place : Place) → two.e.rules.Tells (started_event place p)) → ((p : List (List ℕ)) → path ≡ Some p → (name : List ℕ) → p ≢ inner_of StopPath name) → ((p : List (List ℕ)) → path ≡ Some p → two.e.L → IsInner p) → (two.e.L → IsRoleWithin role) → (at : Spot) (st : State) → Stays st →
       two.R two.n st (starts_at path role handed block (low two) at st) (starts_at path role handed block (high two) at st)
-  starts_at_keeps None role handed block h outside inner r at st s =
+  starts_at_keeps None role handed block h may told outside inner r at st s =
       let go = λ (env : Env) (st : State). spawns role handed block env st (gives Nil) in
-      nested_keeps at st (go (low two)) (go (high two)) s (spawn_keeps role handed block h r st (gives Nil) (gives Nil) s (two.has.given _ Nil (has_spawned st) (λ x. within_nil) s))
-  starts_at_keeps (Some path) role handed block h outside inner r at st s =
+      nested_keeps at st (go (low two)) (go (high two)) s (spawn_keeps role handed block h may r st (gives Nil) (gives Nil) s (two.has.given _ Nil (has_spawned st) (λ x. within_nil) s))
+  starts_at_keeps (Some path) role handed block h may named outside inner r at st s =
       let told = λ (env : Env) (st : State). emits (λ place. started_event place path) env st (λ st. spawns role handed block env st (gives Nil)) in
       let go = λ (env : Env) (answer : Answer) (st : State). cond (is_alive answer) (gives Nil st) (unless_nested env at st (told env)) in
-      two.has.less (omega arith) (reads_keep {n = two.n} (literal_of path) st (go (low two)) (go (high two)) (λ x. inr (record { path = path; inner = inner path refl x; whole = refl })) s (λ answer a.
+      two.has.less (omega arith) (reads_keep {n = two.n} (literal_of path) st (go (low two)) (go (high two)) (λ x. inr (record { path = path; inner = inner path refl x; whole = refl })) s (λ answer a heard.
       cond_keeps two (is_alive answer) (two.has.given _ Nil (answered_state st) (λ x. within_nil) s) (nested_keeps at (answered_state st) (told (low two)) (told (high two)) s (λ less.
-      emit_keeps two (started_event (place_in two.e.start (answered_state st)) path) (started_told two.e.L path (place_in two.e.start (answered_state st)) (outside path refl) (inner path refl) (λ x. (s x).fraction)) s
-      (spawn_keeps role handed block h r (acted (answered_state st)) (gives Nil) (gives Nil) s (two.has.given _ Nil (has_spawned (acted (answered_state st))) (λ x. within_nil) s) less)))))
+      emit_keeps two (started_event (place_in two.e.start (answered_state st)) path) (started_told two.e.L two.e.rules.Tells path (place_in two.e.start (answered_state st)) (outside path refl) (inner path refl) (λ x. (s x).fraction) (λ x. named path refl x (place_in two.e.start (answered_state st)))) s
+      (spawn_keeps role handed block h may r (acted (answered_state st)) (gives Nil) (gives Nil) s (two.has.given _ Nil (has_spawned (acted (answered_state st))) (λ x. within_nil) s) less)))))
 
-  starts_keep : (role : Role) (handed : ℕ) (block : BlockMeaning) → BlockFits two block → (two.e.L → IsRoleWithin role) → (at : Spot) (st : State) → Stays st → two.R two.n st (starts role handed block (low two) at st) (starts role handed block (high two) at st)
-  starts_keep role handed block h r at st s = starts_at_keeps (name_path role) role handed block h (λ path is. name_path_unstopped role path is) (λ path is x. name_path_inner role path (r x) is) r at st s
+  starts_keep : (role : Role) (handed : ℕ) (block : BlockMeaning) → BlockFits two block → (two.e.L → MayStart two.e.rules role (ref_of two.text block.number)) → (two.e.L → IsRoleWithin role) → (at : Spot) (st : State) → Stays st → two.R two.n st (starts role handed block (low two) at st) (starts role handed block (high two) at st)
+  starts_keep role handed block h may r at st s = starts_at_keeps (name_path role) role handed block h (λ x. (may x).starts) (λ path is x. (may x).tells path is) (λ path is. name_path_unstopped role path is) (λ path is x. name_path_inner role path (r x) is) r at st s
 
-  in_thread_grows : (given : Given) (block : Option BlockMeaning) → Fits given → BlockGrows two block → MeaningGrows two (in_thread_call given block)
+  in_thread_grows : (given : Given) (block : Option BlockMeaning) → Fits given → BlockGrows two block → (name : List ℕ) → (two.e.L → MayCall two.e.rules two.text (Some InThread) name given (numbered block)) → MeaningGrows two (in_thread_call given block)
   unfolding in_thread_call
-  in_thread_grows given None g h at st s = fails_keep two WrongCount at st s
-  in_thread_grows given (Some block) g h at st s =
+  in_thread_grows given None g h name may at st s = fails_keep two WrongCount at st s
+  in_thread_grows given (Some block) g h name may at st s =
       let go = λ (env : Env) (role : Role). starts role 0 block env at st in
       or_fails_keeps two (thread_role (option_named (codes "name") given.options)) at st (go (low two)) (go (high two)) s (λ role is.
-      starts_keep role 0 block h (λ x. role_fact given role is (g x)) at st s)
+      starts_keep role 0 block h (λ x. (may x).threads refl role block.number is refl) (λ x. role_fact given role is (g x)) at st s)
 
-  live_loop_grows : (given : Given) (block : Option BlockMeaning) → Fits given → BlockGrows two block → MeaningGrows two (live_loop_call given block)
+  live_loop_grows : (given : Given) (block : Option BlockMeaning) → Fits given → BlockGrows two block → (name : List ℕ) → (two.e.L → MayCall two.e.rules two.text (Some LiveLoop) name given (numbered block)) → MeaningGrows two (live_loop_call given block)
   unfolding live_loop_call
-  live_loop_grows given None g h at st s = fails_keep two WrongCount at st s
-  live_loop_grows given (Some block) g h at st s =
+  live_loop_grows given None g h name may at st s = fails_keep two WrongCount at st s
+  live_loop_grows given (Some block) g h name may at st s =
       let go = λ (env : Env) (parts : LoopParts). emits (λ place. body_event place (inner_of BodyPath parts.name) (block_ref env block) st.locals at.line) env st (λ st. starts (loop_role parts) (size_if_given parts.init) block env at st) in
       or_fails_keeps two (loop_parts given) at st (go (low two)) (go (high two)) s (λ parts is.
-      emit_keeps two _ (body_told two.e.L (inner_of BodyPath parts.name) (block_ref (low two) block) st.locals at.line (place_in two.e.start st) (body_unstopped parts.name) (λ x. inner_path BodyPath parts.name (loop_fact given parts is (g x)).0) (λ x. (s x).pairs) (λ x. (s x).fraction)) s
-      (starts_keep (loop_role parts) (size_if_given parts.init) block h (λ x. loop_fact given parts is (g x)) at (acted st) s))
+      emit_keeps two _ (body_told two.e.L two.e.rules.Tells (inner_of BodyPath parts.name) (block_ref (low two) block) st.locals at.line (place_in two.e.start st) (body_unstopped parts.name) (λ x. inner_path BodyPath parts.name (loop_fact given parts is (g x)).0) (λ x. (s x).pairs) (λ x. (s x).fraction) (λ x. (may x).bodies refl parts block.number is refl (place_in two.e.start st) st.locals at.line)) s
+      (starts_keep (loop_role parts) (size_if_given parts.init) block h (λ x. (may x).loops refl parts block.number is refl) (λ x. loop_fact given parts is (g x)) at (acted st) s))
 
   -- the children of `at`
-  spawns_timed_keep : (timings : List (Fraction × Value)) (block : BlockMeaning) → BlockFits two block → (two.e.L → AllByRecursion IsTiming timings) → length two.e.start.place.thread < 32 → (at : Spot) (st : State) → Stays st →
+  spawns_timed_keep : (timings : List (Fraction × Value)) (block : BlockMeaning) → BlockFits two block → (two.e.L → (rest : Fraction) (value : Value) (line : ℕ) → two.e.rules.Starts (Timed rest value line) (ref_of two.text block.number)) → (two.e.L → AllByRecursion IsTiming timings) → length two.e.start.place.thread < 32 → (at : Spot) (st : State) → Stays st →
       two.R two.n st (spawns_timed timings block (low two) at st) (spawns_timed timings block (high two) at st)
-  spawns_timed_keep [] block h ts less at st s = two.has.given _ Nil st (λ x. within_nil) s
-  spawns_timed_keep (timing ∷ timings) block h ts less at st s =
+  spawns_timed_keep [] block h may ts less at st s = two.has.given _ Nil st (λ x. within_nil) s
+  spawns_timed_keep (timing ∷ timings) block h may ts less at st s =
       let go = λ (env : Env) (st : State). spawns_timed timings block env at st in
-      spawn_keeps (Timed timing.0 timing.1 at.line) (size_of timing.1) block h (λ x. (ts x).0) st (go (low two)) (go (high two)) s
-      (spawns_timed_keep timings block h (λ x. (ts x).1) less at (has_spawned st) s) less
+      spawn_keeps (Timed timing.0 timing.1 at.line) (size_of timing.1) block h (λ x. may x timing.0 timing.1 at.line) (λ x. (ts x).0) st (go (low two)) (go (high two)) s
+      (spawns_timed_keep timings block h may (λ x. (ts x).1) less at (has_spawned st) s) less
 
-  starts_timed_keep : (timings : List (Fraction × Value)) (block : BlockMeaning) → BlockFits two block → (two.e.L → AllByRecursion IsTiming timings) → (at : Spot) (st : State) → Stays st →
+  starts_timed_keep : (timings : List (Fraction × Value)) (block : BlockMeaning) → BlockFits two block → (two.e.L → (rest : Fraction) (value : Value) (line : ℕ) → two.e.rules.Starts (Timed rest value line) (ref_of two.text block.number)) → (two.e.L → AllByRecursion IsTiming timings) → (at : Spot) (st : State) → Stays st →
       two.R two.n st (starts_timed timings block (low two) at st) (starts_timed timings block (high two) at st)
-  starts_timed_keep [] block h ts at st s = two.has.given _ Nil st (λ x. within_nil) s
-  starts_timed_keep (timing ∷ timings) block h ts at st s =
+  starts_timed_keep [] block h may ts at st s = two.has.given _ Nil st (λ x. within_nil) s
+  starts_timed_keep (timing ∷ timings) block h may ts at st s =
       let go = λ (env : Env) (st : State). spawns_timed (timing ∷ timings) block env at st in
-      nested_keeps at st (go (low two)) (go (high two)) s (λ less. spawns_timed_keep (timing ∷ timings) block h ts less at st s)
+      nested_keeps at st (go (low two)) (go (high two)) s (λ less. spawns_timed_keep (timing ∷ timings) block h may ts less at st s)
 
-  at_grows : (given : Given) (block : Option BlockMeaning) → Fits given → BlockGrows two block → MeaningGrows two (at_call given block)
+  at_grows : (given : Given) (block : Option BlockMeaning) → Fits given → BlockGrows two block → (name : List ℕ) → (two.e.L → MayCall two.e.rules two.text (Some At) name given (numbered block)) → MeaningGrows two (at_call given block)
   unfolding at_call
-  at_grows given None g h at st s = fails_keep two WrongCount at st s
-  at_grows given (Some block) g h at st s =
+  at_grows given None g h name may at st s = fails_keep two WrongCount at st s
+  at_grows given (Some block) g h name may at st s =
       let go = λ (env : Env) (timings : List (Fraction × Value)). starts_timed timings block env at st in
       or_fails_keeps two (timings given st) at st (go (low two)) (go (high two)) s (λ ts is.
-      starts_timed_keep ts block h (λ x. timings_fact given st ts is (g x) (s x)) at st s)
+      starts_timed_keep ts block h (λ x. (may x).timed refl block.number refl) (λ x. timings_fact given st ts is (g x) (s x)) at st s)
 
   density_grows : (given : Given) (block : Option BlockMeaning) → Fits given → BlockGrows two block → MeaningGrows two (density_call given block)
   unfolding density_call
@@ -339,9 +346,9 @@ module _ (two : Two) where
       let next = λ (env : Env) (value : Value) (st : State). plays_items items options env at st in
       let rest = λ (env : Env) (st : State) (seconds : Fraction). after (rests seconds env st) (next env) in
       let go = λ (env : Env) (st : State). or_fails (rest_of st item.1) env at st (rest env st) in
-      tick_keeps two (emits_all_keep two (plays_notes options st.settings item.0) st (go (low two)) (go (high two)) s (notes_told two.e.L options st.settings item.0 o (λ x. (s x).set) notes.0 (λ x. (is x).0.0)) (λ end t.
+      tick_keeps two (emits_all_keep two (plays_notes options st.settings item.0) st (go (low two)) (go (high two)) s (notes_told two.e.L two.e.rules.Tells two.e.quiet options st.settings item.0 o (λ x. (s x).set) notes.0 (λ x. (is x).0.0)) (λ end t.
       or_fails_keeps two (rest_of end item.1) at end (rest (low two) end) (rest (high two) end) t (λ seconds e.
-      two.has.followed _ _ (next (low two)) (next (high two))
+      follows two _ _ (next (low two)) (next (high two))
       (two.has.rested _ two.text two.turns two.turns' two.body two.body' seconds end (beats_fit end item.1 seconds e) (λ x. beats_rest end item.1 seconds e (is x).0.1.1 (t x)) t)
       (λ l w u. plays_items_keep items options notes.1 (λ x. (is x).1) o at l.state u))))
 
@@ -359,13 +366,13 @@ module _ (two : Two) where
       or_fails_keeps two (timed_items given) at st (go (low two)) (go (high two)) s (λ items is.
       plays_items_keep items given.options (timed_items_notes given items is) (λ x. timed_items_fact given items is (g x)) (λ x. (g x).options) at st s)
 
-  define_grows : (given : Given) (block : Option BlockMeaning) → Fits given → MeaningGrows two (define_call given block)
+  define_grows : (given : Given) (block : Option BlockMeaning) → Fits given → (name : List ℕ) → (two.e.L → MayCall two.e.rules two.text (Some Define) name given (numbered block)) → MeaningGrows two (define_call given block)
   unfolding define_call
-  define_grows given None g at st s = fails_keep two WrongCount at st s
-  define_grows given (Some block) g at st s =
+  define_grows given None g name may at st s = fails_keep two WrongCount at st s
+  define_grows given (Some block) g called may at st s =
       let go = λ (env : Env) (name : List ℕ). emits (λ place. defined_event place (inner_of DefPath name) (block_ref env block) st.locals) env st (gives Nil) in
       or_fails_keeps two (a_symbol (all_args given)) at st (go (low two)) (go (high two)) s (λ name is.
-      emit_keeps two _ (defined_told two.e.L (inner_of DefPath name) (block_ref (low two) block) st.locals (place_in two.e.start st) (def_unstopped name) (λ x. inner_path DefPath name (symbol_fact given name is (g x))) (λ x. (s x).pairs) (λ x. (s x).fraction)) s
+      emit_keeps two _ (defined_told two.e.L two.e.rules.Tells (inner_of DefPath name) (block_ref (low two) block) st.locals (place_in two.e.start st) (def_unstopped name) (λ x. inner_path DefPath name (symbol_fact given name is (g x))) (λ x. (s x).pairs) (λ x. (s x).fraction) (λ x. (may x).defines refl name block.number is refl (place_in two.e.start st) st.locals)) s
       (two.has.given _ Nil (acted st) (λ x. within_nil) s))
 
   -- the body that is found, in both environments
@@ -374,7 +381,7 @@ module _ (two : Two) where
   runs_found_keep params f g names h locals p line values v at st s =
       let leave = λ (value : Value) (end : State). gives value (with_locals st.locals end) in
       let inside = with_locals (locals ++ params_with params values) st in
-      two.has.followed _ _ leave leave
+      follows two _ _ leave leave
       (two.has.alike {other = inside} (like _ _ _ _ _) (h at inside (λ x. with_pairs _ (s x) (pairs_append locals _ (p x) (params_within params values (names x) (v x))))))
       (λ l w t. gives_like two l.value _ (like _ _ _ _ _) w (λ x. with_pairs _ (t x) (s x).pairs))
 
@@ -388,66 +395,66 @@ module _ (two : Two) where
       (tick_keeps two (charges_keep two (pair_sizes locals) (enters_keep two at st (go f) (go g) s (λ deep. runs_found_keep params f g names h locals p line (all_args given) (λ x. (fits x).args) deep st s))))
       (fails_keep two WrongCount at st s)
 
-  kept_keeps : (kept : Option (BlockRef × Pairs)) (line : ℕ) → (two.e.L → IsBodyWithin kept) → (given : Given) → Fits given → (at : Spot) (st : State) → Stays st →
+  kept_keeps : (kept : Option (BlockRef × Pairs)) (line : ℕ) → (two.e.L → IsBodyWithin kept) → ((k : BlockRef × Pairs) → kept ≡ Some k → two.e.L → two.e.rules.Runs k.0) → (given : Given) → Fits given → (at : Spot) (st : State) → Stays st →
       two.R (two.n - 1) st (or_fails (ok_or (found_at (low two) line kept) UnknownName) (low two) at st (λ found. calls_found found given (low two) at st)) (or_fails (ok_or (found_at (high two) line kept) UnknownName) (high two) at st (λ found. calls_found found given (high two) at st))
-  kept_keeps None line p given g at st s = fails_keep two UnknownName at st s
-  kept_keeps (Some kept) line p given g at st s = found_keeps (two.body kept.0) (two.body' kept.0) (two.bodies kept.0) line kept.1 p given g at st s
+  kept_keeps None line p may given g at st s = fails_keep two UnknownName at st s
+  kept_keeps (Some kept) line p may given g at st s = found_keeps (two.body kept.0) (two.body' kept.0) (two.bodies kept.0 (may kept refl)) line kept.1 p given g at st s
 
-  called_keeps : (answer : Answer) → (two.e.L → IsAnswerWithin answer) → (given : Given) → Fits given → (at : Spot) (st : State) → Stays st →
+  called_keeps : (answer : Answer) → (two.e.L → IsAnswerWithin answer) → ((event : EventView) (k : BlockRef × Pairs) → answer ≡ Found event → event.body ≡ Some k → two.e.L → two.e.rules.Runs k.0) → (given : Given) → Fits given → (at : Spot) (st : State) → Stays st →
       two.R (two.n - 1) st (or_fails (ok_or (body_found (low two) answer) UnknownName) (low two) at st (λ found. calls_found found given (low two) at st)) (or_fails (ok_or (body_found (high two) answer) UnknownName) (high two) at st (λ found. calls_found found given (high two) at st))
-  called_keeps Nothing a given g at st s = fails_keep two UnknownName at st s
-  called_keeps (Found event) a given g at st s = kept_keeps event.body event.line (λ x. (a x).body) given g at st s
+  called_keeps Nothing a may given g at st s = fails_keep two UnknownName at st s
+  called_keeps (Found event) a may given g at st s = kept_keeps event.body event.line (λ x. (a x).body) (λ k is. may event k refl is) given g at st s
 
-  function_grows : (name : List ℕ) (given : Given) → (two.e.L → IsTrue (is_symbol_name name)) → Fits given → MeaningGrows two (function_call name given)
+  function_grows : (name : List ℕ) (given : Given) → (two.e.L → IsTrue (is_symbol_name name)) → Fits given → (two.e.L → MayRun two.e.rules name) → MeaningGrows two (function_call name given)
   unfolding function_call
-  function_grows name given symbol g at st s =
+  function_grows name given symbol g may at st s =
       let go = λ (env : Env) (answer : Answer) (st : State). or_fails (ok_or (body_found env answer) UnknownName) env at st (λ found. calls_found found given env at st) in
-      two.has.less (omega arith) (reads_keep {n = two.n - 1} (literal_of (inner_of DefPath name)) st (go (low two)) (go (high two)) (λ x. inner_pattern DefPath name (symbol x)) s (λ answer a.
-      called_keeps answer a given g at (answered_state st) s))
+      two.has.less (omega arith) (reads_keep {n = two.n - 1} (literal_of (inner_of DefPath name)) st (go (low two)) (go (high two)) (λ x. inner_pattern DefPath name (symbol x)) s (λ answer a heard.
+      called_keeps answer a (λ event k is body x. may x event k (subst (two.e.rules.Hears (literal_of (inner_of DefPath name))) is (heard x)) body) given g at (answered_state st) s))
 
-  performed_grows : (which : CallName) (given : Given) (block : Option BlockMeaning) → Fits given → BlockGrows two block → MeaningGrows two (performed which given block)
+  performed_grows : (which : CallName) (name : List ℕ) (given : Given) (block : Option BlockMeaning) → Fits given → BlockGrows two block → (two.e.L → MayCall two.e.rules two.text (Some which) name given (numbered block)) → MeaningGrows two (performed which given block)
   unfolding performed
-  performed_grows At given block g h at st s = at_grows given block g h at st s
-  performed_grows Cue given block g h at st s = done_keeps two (cue_call given st) at st s (λ d is. cue_deed two.e.L given st d is g s)
-  performed_grows CurrentBpm given block g h at st s = done_keeps two (current_bpm_call given st) at st s (λ d is. current_bpm_deed two.e.L given st d is g s)
-  performed_grows Define given block g h at st s = define_grows given block g at st s
-  performed_grows Density given block g h at st s = density_grows given block g h at st s
-  performed_grows Each given block g h at st s = each_grows given block g h at st s
-  performed_grows Get given block g h at st s = get_grows given g at st s
-  performed_grows InThread given block g h at st s = in_thread_grows given block g h at st s
-  performed_grows LiveLoop given block g h at st s = live_loop_grows given block g h at st s
-  performed_grows Look given block g h at st s = done_keeps two (look_call given st) at st s (λ d is. look_deed two.e.L given st d is g s)
-  performed_grows Loop given block g h at st s = loop_grows given block h at st s
-  performed_grows Map given block g h at st s = map_grows given block g h at st s
-  performed_grows Play given block g h at st s = done_keeps two (play_call given st) at st s (λ d is. play_deed two.e.L given st d is g s)
-  performed_grows PlayPattern given block g h at st s = play_pattern_grows given g at st s
-  performed_grows PlayPatternTimed given block g h at st s = play_pattern_timed_grows given g at st s
-  performed_grows Print given block g h at st s = done_keeps two (puts_call given st) at st s (λ d is. puts_deed two.e.L given st d is g s)
-  performed_grows Puts given block g h at st s = done_keeps two (puts_call given st) at st s (λ d is. puts_deed two.e.L given st d is g s)
-  performed_grows Rt given block g h at st s = done_keeps two (rt_call given st) at st s (λ d is. rt_deed two.e.L given st d is g s)
-  performed_grows Sample given block g h at st s = done_keeps two (sample_call given st) at st s (λ d is. sample_deed two.e.L given st d is g s)
-  performed_grows Set given block g h at st s = done_keeps two (set_call given st) at st s (λ d is. set_deed two.e.L given st d is g s)
-  performed_grows Sleep given block g h at st s = sleep_grows given g at st s
-  performed_grows Stop given block g h at st s = ends_keep two Stopped st s
-  performed_grows Sync given block g h at st s = sync_grows given g at st s
-  performed_grows Synth given block g h at st s = done_keeps two (synth_call given st) at st s (λ d is. synth_deed two.e.L given st d is g s)
-  performed_grows Tick given block g h at st s = done_keeps two (tick_call given st) at st s (λ d is. tick_deed two.e.L given st d is g s)
-  performed_grows TickReset given block g h at st s = done_keeps two (tick_reset_call given st) at st s (λ d is. tick_reset_deed two.e.L given st d is g s)
-  performed_grows TickSet given block g h at st s = done_keeps two (tick_set_call given st) at st s (λ d is. tick_set_deed two.e.L given st d is g s)
-  performed_grows Times given block g h at st s = times_grows given block g h at st s
-  performed_grows UseBpm given block g h at st s = done_keeps two (use_bpm_call given st) at st s (λ d is. use_bpm_deed two.e.L given st d is g s)
-  performed_grows UseDebug given block g h at st s = done_keeps two (use_debug_call given st) at st s (λ d is. use_debug_deed two.e.L given st d is g s)
-  performed_grows UseRandomSeed given block g h at st s = done_keeps two (use_random_seed_call given st) at st s (λ d is. use_random_seed_deed two.e.L given st d is g s)
-  performed_grows UseSynth given block g h at st s = done_keeps two (use_synth_call given st) at st s (λ d is. use_synth_deed two.e.L given st d is g s)
-  performed_grows UseSynthDefaults given block g h at st s = done_keeps two (use_synth_defaults_call given st) at st s (λ d is. use_synth_defaults_deed two.e.L given st d is g s)
-  performed_grows Vt given block g h at st s = done_keeps two (vt_call given st) at st s (λ d is. vt_deed two.e.L given st d is g s)
-  performed_grows Wait given block g h at st s = sleep_grows given g at st s
-  performed_grows WithBpm given block g h at st s = with_bpm_grows given block g h at st s
-  performed_grows WithFx given block g h at st s = with_fx_grows given block g h at st s
-  performed_grows WithRandomSeed given block g h at st s = with_random_seed_grows given block h at st s
-  performed_grows WithSynth given block g h at st s = with_synth_grows given block g h at st s
-  performed_grows which given block g h at st s = done_keeps two (computed which given st) at st s (λ d is. computed_deed two.e.L which given st d is g s)
+  performed_grows At name given block g h may at st s = at_grows given block g h name may at st s
+  performed_grows Cue name given block g h may at st s = done_keeps two (cue_call given st) at st s (λ d is. cue_deed two.e.L two.e.rules.Tells two.e.quiet given st d (λ x. (may x).cues refl) is g s)
+  performed_grows CurrentBpm name given block g h may at st s = done_keeps two (current_bpm_call given st) at st s (λ d is. current_bpm_deed two.e.L two.e.rules.Tells two.e.quiet given st d is g s)
+  performed_grows Define name given block g h may at st s = define_grows given block g name may at st s
+  performed_grows Density name given block g h may at st s = density_grows given block g h at st s
+  performed_grows Each name given block g h may at st s = each_grows given block g h at st s
+  performed_grows Get name given block g h may at st s = get_grows given g at st s
+  performed_grows InThread name given block g h may at st s = in_thread_grows given block g h name may at st s
+  performed_grows LiveLoop name given block g h may at st s = live_loop_grows given block g h name may at st s
+  performed_grows Look name given block g h may at st s = done_keeps two (look_call given st) at st s (λ d is. look_deed two.e.L two.e.rules.Tells two.e.quiet given st d is g s)
+  performed_grows Loop name given block g h may at st s = loop_grows given block h at st s
+  performed_grows Map name given block g h may at st s = map_grows given block g h at st s
+  performed_grows Play name given block g h may at st s = done_keeps two (play_call given st) at st s (λ d is. play_deed two.e.L two.e.rules.Tells two.e.quiet given st d is g s)
+  performed_grows PlayPattern name given block g h may at st s = play_pattern_grows given g at st s
+  performed_grows PlayPatternTimed name given block g h may at st s = play_pattern_timed_grows given g at st s
+  performed_grows Print name given block g h may at st s = done_keeps two (puts_call given st) at st s (λ d is. puts_deed two.e.L two.e.rules.Tells two.e.quiet given st d is g s)
+  performed_grows Puts name given block g h may at st s = done_keeps two (puts_call given st) at st s (λ d is. puts_deed two.e.L two.e.rules.Tells two.e.quiet given st d is g s)
+  performed_grows Rt name given block g h may at st s = done_keeps two (rt_call given st) at st s (λ d is. rt_deed two.e.L two.e.rules.Tells two.e.quiet given st d is g s)
+  performed_grows Sample name given block g h may at st s = done_keeps two (sample_call given st) at st s (λ d is. sample_deed two.e.L two.e.rules.Tells two.e.quiet given st d is g s)
+  performed_grows Set name given block g h may at st s = done_keeps two (set_call given st) at st s (λ d is. set_deed two.e.L two.e.rules.Tells two.e.quiet given st d (λ x. (may x).sets refl) is g s)
+  performed_grows Sleep name given block g h may at st s = sleep_grows given g at st s
+  performed_grows Stop name given block g h may at st s = ends_keep two Stopped st s
+  performed_grows Sync name given block g h may at st s = sync_grows given g at st s
+  performed_grows Synth name given block g h may at st s = done_keeps two (synth_call given st) at st s (λ d is. synth_deed two.e.L two.e.rules.Tells two.e.quiet given st d is g s)
+  performed_grows Tick name given block g h may at st s = done_keeps two (tick_call given st) at st s (λ d is. tick_deed two.e.L two.e.rules.Tells two.e.quiet given st d is g s)
+  performed_grows TickReset name given block g h may at st s = done_keeps two (tick_reset_call given st) at st s (λ d is. tick_reset_deed two.e.L two.e.rules.Tells two.e.quiet given st d is g s)
+  performed_grows TickSet name given block g h may at st s = done_keeps two (tick_set_call given st) at st s (λ d is. tick_set_deed two.e.L two.e.rules.Tells two.e.quiet given st d is g s)
+  performed_grows Times name given block g h may at st s = times_grows given block g h at st s
+  performed_grows UseBpm name given block g h may at st s = done_keeps two (use_bpm_call given st) at st s (λ d is. use_bpm_deed two.e.L two.e.rules.Tells two.e.quiet given st d is g s)
+  performed_grows UseDebug name given block g h may at st s = done_keeps two (use_debug_call given st) at st s (λ d is. use_debug_deed two.e.L two.e.rules.Tells two.e.quiet given st d is g s)
+  performed_grows UseRandomSeed name given block g h may at st s = done_keeps two (use_random_seed_call given st) at st s (λ d is. use_random_seed_deed two.e.L two.e.rules.Tells two.e.quiet given st d is g s)
+  performed_grows UseSynth name given block g h may at st s = done_keeps two (use_synth_call given st) at st s (λ d is. use_synth_deed two.e.L two.e.rules.Tells two.e.quiet given st d is g s)
+  performed_grows UseSynthDefaults name given block g h may at st s = done_keeps two (use_synth_defaults_call given st) at st s (λ d is. use_synth_defaults_deed two.e.L two.e.rules.Tells two.e.quiet given st d is g s)
+  performed_grows Vt name given block g h may at st s = done_keeps two (vt_call given st) at st s (λ d is. vt_deed two.e.L two.e.rules.Tells two.e.quiet given st d is g s)
+  performed_grows Wait name given block g h may at st s = sleep_grows given g at st s
+  performed_grows WithBpm name given block g h may at st s = with_bpm_grows given block g h at st s
+  performed_grows WithFx name given block g h may at st s = with_fx_grows given block g h at st s
+  performed_grows WithRandomSeed name given block g h may at st s = with_random_seed_grows given block h at st s
+  performed_grows WithSynth name given block g h may at st s = with_synth_grows given block g h at st s
+  performed_grows which name given block g h may at st s = done_keeps two (computed which given st) at st s (λ d is. computed_deed two.e.L two.e.rules.Tells two.e.quiet which given st d is g s)
 
-  pub calls_name_grows : (which : Option CallName) (name : List ℕ) (given : Given) (block : Option BlockMeaning) → (two.e.L → IsTrue (is_symbol_name name)) → Fits given → BlockGrows two block → MeaningGrows two (calls_name which name given block)
-  calls_name_grows (Some which) name given block symbol g h at st s = performed_grows which given block g h at st s
-  calls_name_grows None name given block symbol g h at st s = function_grows name given symbol g at st s
+  pub calls_name_grows : (which : Option CallName) (name : List ℕ) (given : Given) (block : Option BlockMeaning) → (two.e.L → IsTrue (is_symbol_name name)) → Fits given → BlockGrows two block → (two.e.L → MayCall two.e.rules two.text which name given (numbered block)) → MeaningGrows two (calls_name which name given block)
+  calls_name_grows (Some which) name given block symbol g h may at st s = performed_grows which name given block g h may at st s
+  calls_name_grows None name given block symbol g h may at st s = function_grows name given symbol g (λ x. (may x).runs refl) at st s

@@ -26,9 +26,9 @@ step_grows s (cut c) = cut (record { nothing = c.nothing; more = c.more; prefix 
 pub halts_grow : (b : Ran) → Grows 0 halts b
 halts_grow b = cut (record { nothing = refl; more = b.steps; prefix = refl; long = omega arith })
 
-goes_on_grows : (n : ℕ) (s : List Step) (left : Option Left) (k k' : Next) → ((l : Left) → Grows n (k l.value l.state) (k' l.value l.state)) → Grows n (goes_on s left k) (goes_on s left k')
+goes_on_grows : (n : ℕ) (s : List Step) (left : Option Left) (k k' : Next) → ((l : Left) → left ≡ Some l → Grows n (k l.value l.state) (k' l.value l.state)) → Grows n (goes_on s left k) (goes_on s left k')
 goes_on_grows n s None k k' h = same refl
-goes_on_grows n s (Some l) k k' h = go (h l)
+goes_on_grows n s (Some l) k k' h = go (h l refl)
   where
     go : Grows n (k l.value l.state) (k' l.value l.state) → Grows n (goes_on s (Some l) k) (goes_on s (Some l) k')
     go (same e) = same (ap (λ (r : Ran). goes_on s (Some l) (λ _ _. r)) e)
@@ -41,7 +41,7 @@ stopped_grows n s t None (Some r) k k' e more f long =
     cut (record { nothing = refl; more = more ++ (k' r.value r.state).steps; prefix = ap (λ x. x ++ (k' r.value r.state).steps) f ∙ append_assoc s more _; long = long })
 stopped_grows n s t (Some r) left' k k' e more f long = cc
 
-pub after_grows : {n : ℕ} (a b : Ran) (k k' : Next) → Grows n a b → ((l : Left) → Grows n (k l.value l.state) (k' l.value l.state)) → Grows n (after a k) (after b k')
+pub after_grows : {n : ℕ} (a b : Ran) (k k' : Next) → Grows n a b → ((l : Left) → a.left ≡ Some l → Grows n (k l.value l.state) (k' l.value l.state)) → Grows n (after a k) (after b k')
 after_grows {n} a b k k' (same e) h = subst (λ x. Grows n (after a k) (after x k')) e (goes_on_grows n a.steps a.left k k' h)
 after_grows {n} a b k k' (cut c) h = stopped_grows n a.steps b.steps a.left b.left k k' c.nothing c.more c.prefix c.long
 

@@ -41,14 +41,14 @@ more_answers texts start answers more = record {
   emitted = λ {n} {st} {a} {b} event told s h. less (omega arith) (step_grows _ h);
   effected = λ {n} {st} {a} {b} name options named within s h. less (omega arith) (step_grows _ h);
   ended = λ n st reason s. same refl;
-  followed = λ {n} {st} a b k k' h f. after_grows a b k k' h (λ l. f l (λ x. absurd x) (λ x. absurd x));
+  followed = λ {n} {st} a b k k' h f. after_grows a b k k' h (λ l left. f l left (λ x. absurd x) (λ x. absurd x));
   asked = λ n text turns turns' body body' pattern st go go' p s h.
-      asked_more _ (slice_get answers st.used) (slice_get (answers ++ more) st.used) st go go' (further_adds answers more st.used) (λ answer. h answer (λ x. absurd x));
+      asked_more _ (slice_get answers st.used) (slice_get (answers ++ more) st.used) st go go' (further_adds answers more st.used) (λ answer. h answer (λ x. absurd x) (λ x. absurd x));
   waited = λ n text turns turns' body body' pattern st go go' p s h.
       asked_more _ (slice_get answers st.used) (slice_get (answers ++ more) st.used) st (λ answer st. wakes_by answer st go) (λ answer st. wakes_by answer st go') (further_adds answers more st.used)
       (λ answer. answer_wakes 0 answer (answered_state st) go go' (λ path event. h path event (λ x. absurd x) (λ x. absurd x)));
   rested = λ n text turns turns' body body' seconds st ok r s. same refl;
-  spawned = λ n text turns turns' body body' role handed block st go go' nested r b s h. less (omega arith) (step_grows _ h);
+  spawned = λ n text turns turns' body body' role handed block st go go' nested r b may s h. less (omega arith) (step_grows _ h);
 }
 
 -- a prefix of a prefix
@@ -65,4 +65,4 @@ prefixes n {a} {b} (cut c) = subst (λ steps. IsPrefix (take n a.steps) (take n 
 pub answers_law : AnswersLaw
 unfolding acts
 answers_law texts start answers more n =
-    prefixes n (of_thread (λ n st a b. Grows 0 a b) (evaluation texts start answers (answers ++ more)) (more_answers texts start answers more) (λ x. absurd x) n n (omega arith))
+    prefixes n (of_thread (λ n st a b. Grows 0 a b) (evaluation texts start answers (answers ++ more)) (more_answers texts start answers more) n n (omega arith))

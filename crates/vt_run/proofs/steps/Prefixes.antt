@@ -15,12 +15,12 @@ use Rattle.vt_run.specs.Evaluation.{Ran, Step, does, step}
 use Rattle.vt_run.specs.Threads.{acts, env_of, thread}
 use Rattle.vt_run.proofs.growth.Closures.{Closure, Subject, answered_state}
 use Rattle.vt_run.proofs.growth.Growth.{Grows, same, less, step_grows, halts_grow, after_grows, prefix_same}
-use Rattle.vt_run.proofs.growth.ThreadGrowth.{of_thread}
+use Rattle.vt_run.proofs.growth.ThreadGrowth.{free_subject, of_thread}
 use Rattle.vt_run.specs.laws.StepLaws.{PrefixLaw}
 
 -- an evaluation of which nothing is known, with two lists of answers
 abbrev pub evaluation : Texts → Start → List Answer → List Answer → Subject
-evaluation texts start answers answers' = record { L = ⊥; texts = texts; start = start; answers = answers; answers' = answers'; within = λ l. absurd l }
+evaluation texts start answers answers' = free_subject ⊥ texts start answers answers' (λ l. absurd l) (λ l. absurd l)
 
 -- a read, where the bound grows
 asked_on : (n : ℕ) (place : Place) (pattern : List Segment) (answer : Option Answer) (st : State) (go go' : Answer → State → Ran) →
@@ -60,17 +60,17 @@ growth texts start answers = record {
   emitted = λ {n} {st} {a} {b} event told s h. step_grows _ h;
   effected = λ {n} {st} {a} {b} name options named within s h. step_grows _ h;
   ended = λ n st reason s. same refl;
-  followed = λ {n} {st} a b k k' h f. after_grows a b k k' h (λ l. f l (λ x. absurd x) (λ x. absurd x));
-  asked = λ n text turns turns' body body' pattern st go go' p s h. asked_on n (place_of (env_of start text answers turns body) st) pattern (slice_get answers st.used) st go go' (λ answer. h answer (λ x. absurd x));
+  followed = λ {n} {st} a b k k' h f. after_grows a b k k' h (λ l left. f l left (λ x. absurd x) (λ x. absurd x));
+  asked = λ n text turns turns' body body' pattern st go go' p s h. asked_on n (place_of (env_of start text answers turns body) st) pattern (slice_get answers st.used) st go go' (λ answer. h answer (λ x. absurd x) (λ x. absurd x));
   waited = λ n text turns turns' body body' pattern st go go' p s h. waited_on n _ (slice_get answers st.used) st go go' (λ path event. h path event (λ x. absurd x) (λ x. absurd x));
   rested = λ n text turns turns' body body' seconds st ok r s. same refl;
-  spawned = λ n text turns turns' body body' role handed block st go go' nested r b s h. step_grows _ h;
+  spawned = λ n text turns turns' body body' role handed block st go go' nested r b may s h. step_grows _ h;
 }
 
 -- the first n steps under any bound from n on
 pub acts_stable : (texts : Texts) (start : Start) (answers : List Answer) (n m : ℕ) → n ≤ m → acts texts start answers n ≡ take n (thread texts start answers m).steps
 unfolding acts
-acts_stable texts start answers n m le = prefix_same (of_thread (λ n st a b. Grows n a b) (evaluation texts start answers answers) (growth texts start answers) (λ x. absurd x) n m le)
+acts_stable texts start answers n m le = prefix_same (of_thread (λ n st a b. Grows n a b) (evaluation texts start answers answers) (growth texts start answers) n m le)
 
 take-take : {A : Type 0} (n m : ℕ) (xs : List A) → n ≤ m → take n (take m xs) ≡ take n xs
 take-take zero m xs le = refl

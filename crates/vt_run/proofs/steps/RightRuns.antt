@@ -107,10 +107,10 @@ run_joins e n now (step ∷ steps) l next h k =
     )
 
 pub run_goes_on : (e : Subject) (n : ℕ) (now : Moment) (steps : List Step) (left : Option Left) (next : Next) → IsRun e n now steps left →
-    ((l : Left) → IsLeft e (moment_in e.start e.answers l.state) l → IsRun e n (moment_in e.start e.answers l.state) (next l.value l.state).steps (next l.value l.state).left) →
+    ((l : Left) → left ≡ Some l → IsLeft e (moment_in e.start e.answers l.state) l → IsRun e n (moment_in e.start e.answers l.state) (next l.value l.state).steps (next l.value l.state).left) →
     IsRun e n now (goes_on steps left next).steps (goes_on steps left next).left
 run_goes_on e n now steps None next h k = h
-run_goes_on e n now steps (Some l) next h k = run_joins e n now steps l (next l.value l.state) h (k l)
+run_goes_on e n now steps (Some l) next h k = run_joins e n now steps l (next l.value l.state) h (k l refl)
 
 -- a run that begins with the step of an action, behind which the thread goes on
 pub run_begins : (e : Subject) (n : ℕ) (now then : Moment) (cost : ℕ) (action : Action) (ran : Ran) → 1 ≤ cost → IsDone e now action →

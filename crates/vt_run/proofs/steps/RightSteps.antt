@@ -71,7 +71,7 @@ none_left [] (suc used) h = refl
 none_left (first ∷ answers) zero h = absurd (let z : Some first ≡ None = h in cc)
 none_left (first ∷ answers) (suc used) h = none_left answers used h
 
-answer_within : (answers : List Answer) (used : ℕ) (answer : Answer) → slice_get answers used ≡ Some answer → AllByRecursion IsAnswerWithin answers → IsAnswerWithin answer
+pub answer_within : (answers : List Answer) (used : ℕ) (answer : Answer) → slice_get answers used ≡ Some answer → AllByRecursion IsAnswerWithin answers → IsAnswerWithin answer
 answer_within [] used answer h all = absurd (let z : None ≡ Some answer = h in cc)
 answer_within (first ∷ answers) zero answer h all = let same : first ≡ answer = cc in subst IsAnswerWithin same all.0
 answer_within (first ∷ answers) (suc used) answer h all = answer_within answers used answer h all.1
@@ -81,7 +81,7 @@ fits_if f true h = refl
 fits_if f false h = h
 
 -- a time that fits
-time_fits : (time seconds : Fraction) → IsOk (exact_sum time seconds) → IsFraction (sum_of time seconds)
+pub time_fits : (time seconds : Fraction) → IsOk (exact_sum time seconds) → IsFraction (sum_of time seconds)
 time_fits time seconds h = fraction_from_fits (sum_of time seconds) (lowest_sum time seconds) (fits_if (sum_of time seconds) (fits (sum_of time seconds)) h)
 
 seed_fits : (first second : ℕ) → first < 2 ^ 32 → second < 2 ^ 32 → child_seed_of first second < 2 ^ 64
@@ -153,7 +153,7 @@ module _ (e : Subject) where
   spent_right : (n : ℕ) (st : State) (a b : Ran) (cost : ℕ) → 1 ≤ cost → Right e n st a b → Right e (suc n) st (spends cost a) (spends cost b)
   spent_right n st a b cost le h effects = (record { costs = le; does_one = tt }, fewer_right n st a (h effects))
 
-  emitted_right : (n : ℕ) (st : State) (a b : Ran) (event : EventView) → IsTold e.L (place_in e.start st) event → Right e n (acted st) a b →
+  emitted_right : (n : ℕ) (st : State) (a b : Ran) (event : EventView) → IsTold e.L e.rules.Tells (place_in e.start st) event → Right e n (acted st) a b →
       Right e (suc n) st (does (emit_cost event) (Emit event) a) (does (emit_cost event) (Emit event) b)
   emitted_right n st a b event told h effects =
       emits_right (suc n) st event a told.placed told.made.fields.path_with_kind (λ small. (told.made, told.within)) (fewer_right n (acted st) a (h (omega (arith, effects))))
@@ -174,10 +174,10 @@ module _ (e : Subject) where
       run_ends e n (moment_in e.start e.answers st) 1 (End (place_in e.start st) reason) (omega arith) (record { placed = refl; right = λ l. (s l).fraction }) refl
 
   followed_right : (n : ℕ) (st : State) (a b : Ran) (k k' : Next) → Right e n st a b →
-      ((l : Left) → (e.L → IsWithin l.value) → (e.L → IsStateWithin l.state) → Right e n l.state (k l.value l.state) (k' l.value l.state)) →
+      ((l : Left) → a.left ≡ Some l → (e.L → IsWithin l.value) → (e.L → IsStateWithin l.state) → Right e n l.state (k l.value l.state) (k' l.value l.state)) →
       Right e n st (after a k) (after b k')
   followed_right n st a b k k' h next effects =
-      run_goes_on e n (moment_in e.start e.answers st) a.steps a.left k (h effects) (λ l left. next l left.value left.state left.effects)
+      run_goes_on e n (moment_in e.start e.answers st) a.steps a.left k (h effects) (λ l is left. next l is left.value left.state left.effects)
 
   asked_right : (n : ℕ) (st : State) (pattern : List Segment) (go go' : Answer → State → Ran) (found : Option Answer) → slice_get e.answers st.used ≡ found →
       (e.L → AllByRecursion IsAnswerWithin e.answers) → (e.L → IsPatternWithin pattern) → (e.L → IsStateWithin st) →
@@ -284,8 +284,8 @@ module _ (e : Subject) where
       refl refl (fewer_right n (has_spawned st) (go (has_spawned st)) h)
 
   -- the relation is kept by all parts of a run
-  pub right : (e.L → AllByRecursion IsAnswerWithin e.answers) → Closure (Right e) e
-  right all = record {
+  pub right : ((pattern : List Segment) (answer : Answer) → e.L → e.rules.Hears pattern answer) → (e.L → AllByRecursion IsAnswerWithin e.answers) → Closure (Right e) e
+  right heard all = record {
     less = λ {n} {m} {st} {a} {b} le h effects. run_less e n m (moment_in e.start e.answers st) a.steps a.left le (h effects);
     alike = λ {n} {st} {other} {a} {b} like h. alike_right n st other a b like h;
     given = given_right;
@@ -295,8 +295,8 @@ module _ (e : Subject) where
     effected = λ {n} {st} {a} {b} name options symbol pairs s h. effected_right n st a b name options symbol pairs s h;
     ended = ended_right;
     followed = λ {n} {st} a b k k' h next. followed_right n st a b k k' h next;
-    asked = λ n text turns turns' body body' pattern st go go' p s h effects. asked_right n st pattern go go' (slice_get e.answers st.used) refl all p s h effects;
+    asked = λ n text turns turns' body body' pattern st go go' p s h effects. asked_right n st pattern go go' (slice_get e.answers st.used) refl all p s (λ answer a. h answer a (heard pattern answer)) effects;
     waited = λ n text turns turns' body body' pattern st go go' p s h effects. waited_right n st pattern go (slice_get e.answers st.used) refl all p s (λ path event q v. h path event q v (omega (arith, effects)));
     rested = λ n text turns turns' body body' seconds st ok r s effects. rested_right n st seconds (is_past e.start.until (time_after seconds st)) refl ok r s effects;
-    spawned = λ n text turns turns' body body' role handed block st go go' nested r there s h effects. spawned_right n text turns body role handed block st go nested r there s (h (omega (arith, effects)));
+    spawned = λ n text turns turns' body body' role handed block st go go' nested r there may s h effects. spawned_right n text turns body role handed block st go nested r there s (h (omega (arith, effects)));
   }

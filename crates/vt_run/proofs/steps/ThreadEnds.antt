@@ -32,7 +32,7 @@ tells_nothing (Some path) env st reason = refl
 ends_nothing : (reason : EndReason) (env : Env) (st : State) → (ends reason env st).left ≡ None
 ends_nothing reason env st = tells_nothing (name_path env.start.role) env st reason
 
-fails_nothing : (kind : FaultKind) (env : Env) (at : Spot) (st : State) → (fails kind env at st).left ≡ None
+pub fails_nothing : (kind : FaultKind) (env : Env) (at : Spot) (st : State) → (fails kind env at st).left ≡ None
 fails_nothing kind env at st = ends_nothing Faulted env _
 
 goes_on_nothing : (steps : List Step) (left : Option Left) (next : Next) → ((l : Left) → (next l.value l.state).left ≡ None) → (goes_on steps left next).left ≡ None

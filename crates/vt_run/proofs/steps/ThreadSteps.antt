@@ -19,19 +19,12 @@ use Rattle.vt_run.proofs.steps.Moments.{Moment, first_moment, moment_after, mome
 use Rattle.vt_run.proofs.steps.RightRuns.{Behind, IsDone, IsOneDone, IsRun, Right}
 use Rattle.vt_run.proofs.steps.RightSteps.{right}
 use Rattle.vt_run.proofs.steps.ThreadEnds.{thread_leaves_nothing}
-use Rattle.vt_run.proofs.growth.ThreadGrowth.{of_thread}
+use Rattle.vt_run.proofs.growth.ThreadGrowth.{free_subject, of_thread}
 use Rattle.vt_run.specs.Standing.{action_place, is_last_step}
 
 -- the evaluation of a thread; what it is given may be within the limits
 abbrev pub evaluation : Texts → Start → List Answer → Subject
-evaluation texts start answers = record {
-  L = IsThreadWithin texts start answers;
-  texts = texts;
-  start = start;
-  answers = answers;
-  answers' = answers;
-  within = λ given. given.began;
-}
+evaluation texts start answers = free_subject (IsThreadWithin texts start answers) texts start answers answers (λ given. given.began) (λ given. given.checked)
 
 -- the steps of a thread under a bound are right, and nothing is left
 thread_runs : (texts : Texts) (start : Start) (answers : List Answer) (n : ℕ) → IsRun (evaluation texts start answers) n (first_moment start answers) (thread texts start answers n).steps None
@@ -39,7 +32,7 @@ thread_runs texts start answers n =
     let e = evaluation texts start answers in
     let same : n ≤ n = omega arith in
     subst (λ (left : Option Left). IsRun e n (first_moment start answers) (thread texts start answers n).steps left) (thread_leaves_nothing texts start answers n)
-    (of_thread (Right e) e (right e (λ given. given.answered)) (λ given. given.checked) n n same (omega arith))
+    (of_thread (Right e) e (right e (λ pattern answer given. tt) (λ given. given.answered)) n n same (omega arith))
 
 pub some_left : {A : Type 0} (prefix : List A) (x : A) (rest : List A) → prefix ++ x ∷ rest ≡ [] → ⊥
 some_left [] x rest h = let z : x ∷ rest ≡ [] = h in absurd cc

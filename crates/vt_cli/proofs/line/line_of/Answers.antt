@@ -1,5 +1,5 @@
 use Rattle.std.proofs.Common.{◌∙◌, sym}
-use Rattle.vt_cli.proofs.Words.{line-of-none, line-of-one, line-of-three, line-of-two}
+use Rattle.vt_cli.proofs.LineWords.{line-of-none, line-of-one, line-of-three, line-of-two}
 use Rattle.vt_cli.proofs.line.line_of.Goals as goal
 
 pub returns-then-is_empty : goal.returns-then-is_empty

@@ -4,6 +4,6 @@ use Rattle.vt_meaning.proofs.real_threads.rendered_stores_hold_the_meaning.Goals
 pub returns : goal.returns
 returns c =
     record {
-      finished = finished_is_meant c.threads_of_texts_have_the_laws.ensures c.openings_are_orderly.ensures c.finished_stores_hold_the_meaning.ensures;
-      above = above_is_spent c.threads_of_texts_have_the_laws.ensures c.openings_are_orderly.ensures c.stores_stay_within_the_budget.ensures;
+      finished = finished_is_meant c.rendered_sessions_have_the_laws.ensures.session c.finished_stores_hold_the_meaning.ensures;
+      above = above_is_spent c.rendered_sessions_have_the_laws.ensures.session c.stores_stay_within_the_budget.ensures;
     }

@@ -1,5 +1,5 @@
 use Rattle.vt_meaning.proofs.StepLaws.{acts_live}
-use Rattle.vt_meaning.proofs.KeptByTurns.{opening_consistent}
+use Rattle.vt_meaning.proofs.KeptByTransitions.{opening_consistent}
 use Rattle.vt_meaning.proofs.stores.opening_store_is_consistent.Goals as goal
 
 pub returns : goal.returns
