@@ -1,0 +1,11 @@
+pub mod Acts
+pub mod Begun
+pub mod Blocks
+pub mod Counted
+pub mod Ended
+pub mod Parts
+pub mod Performed
+pub mod Played
+pub mod Starts
+pub mod Turned
+pub mod Ways
